@@ -1,0 +1,3 @@
+-- The turns of the check's loop.
+
+mod Turns

@@ -1,0 +1,6 @@
+-- Where a card's parts stand, what a sound verdict and an accepting check tell, and document 01's worked examples.
+
+pub mod Places
+pub mod Verdicts
+pub mod Checked
+pub mod Examples

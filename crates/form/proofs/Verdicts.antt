@@ -1,0 +1,130 @@
+-- What a sound verdict tells of its tests. Assumes nothing.
+use Prim.Native.Nat.{ℕ, zero, suc, _+_, _*_, _<_, _≤_}
+use mathlib.Core.Path.{_≡_, refl}
+use mathlib.Core.List.{List, [], _∷_}
+use mathlib.Core.Bool.{Bool, true, false, not}
+use native.Mathlib.Omega.{arith}
+use native.Mathlib.Decide.{ℕ-discrete}
+use lib.ListN.{length}
+use lib.Dec.{ltb, leb, eqb}
+use borrow.Author.Tests.{ltb-false, leb-false, eqb-true, eqb-false, lt-ltb, not-false}
+use Rattle.lists.proofs.Tests.{or-false}
+use Rattle.words.specs.Fields.{kind, inputSpare, readSpare, exitsSpare, nodeCount, readGraph, exitOf}
+use Rattle.form.specs.declared.Rule.{Rule}
+use Rattle.form.specs.declared.Rule.the-variants.{TooManyGraphs, StrayBit, ReadNotBelow, ExitNotLater}
+use Rattle.form.specs.declared.Counts.{Counts}
+use Rattle.form.specs.declared.Verdict.{Verdict}
+use Rattle.form.specs.declared.Verdict.the-variants.{Sound, Broken}
+use Rattle.form.specs.declared.Answer.{Answer}
+use Rattle.form.specs.declared.Answer.the-variants.{Accepted}
+use Rattle.form.specs.Check.{Test, test, due, unless, firstBroken, andThen, onward, place, inputTests, outputTests, headerVerdict, misplaced, word, readVerdict, exitsVerdict, nodeVerdict, nodesVerdict}
+
+pub not-sound : (r : Rule) (p : ℕ) → Broken r p ≡ Sound → ⊥
+not-sound r p e = let z : _≡_ {A = ℕ} 0 1 = cc in omega arith
+
+-- no test of the list is broken
+abbrev pub Passed : List Test → Type 0
+Passed [] = Unit {0}
+Passed (t ∷ ts) = (t .broken ≡ false) × Passed ts
+
+-- a sound verdict has sound parts, and an accepting answer sound verdicts
+pub then-sound : (u v : Verdict) → andThen u v ≡ Sound → (u ≡ Sound) × (v ≡ Sound)
+then-sound Sound v e = (refl, e)
+then-sound (Broken r p) v e = (e, cc)
+
+test-sound : (b : Bool) (r : Rule) (p : ℕ) (v : Verdict) → unless b (Broken r p) v ≡ Sound → (b ≡ false) × (v ≡ Sound)
+test-sound true r p v e = (cc, cc)
+test-sound false r p v e = (refl, e)
+
+pub all-passed : (ts : List Test) → firstBroken ts ≡ Sound → Passed ts
+all-passed [] e = tt
+all-passed (t ∷ ts) e =
+    let (b, e′) = test-sound (t .broken) (t .rule) (t .position) (firstBroken ts) e in
+    (b, all-passed ts e′)
+
+pub onward-accepts : (v : Verdict) (a : Answer) (c : Counts) → onward v a ≡ Accepted c → (v ≡ Sound) × (a ≡ Accepted c)
+onward-accepts Sound a c e = (refl, e)
+onward-accepts (Broken r p) a c e = (cc, cc)
+
+-- a sound header w: of an input it is all zero, of an output it counts some nodes and not too many
+module _ (w : ℕ) (c : Counts) (e : headerVerdict w c ≡ Sound) where
+  pub header-sound : (c .graphs < 1024) × (unless (eqb (kind w) 0) (firstBroken (inputTests w c)) (firstBroken (outputTests w c)) ≡ Sound)
+  unfolding headerVerdict
+  header-sound =
+      let few = test (leb 1024 (c .graphs)) TooManyGraphs (place c) ∷ [] in
+      let (a, b) = then-sound (firstBroken few) _ e in
+      (leb-false 1024 (c .graphs) (all-passed few a .0), b)
+
+  pub an-input : eqb (kind w) 0 ≡ true → (c .graphs ≤ c .inputs) × (nodeCount w ≡ 0)
+  an-input z =
+      let t = all-passed (inputTests w c) (rw z at (header-sound .1)) in
+      (ltb-false (c .inputs) (c .graphs) (t .0), omega (arith, eqb-true (kind w) 0 z, eqb-true (inputSpare w) 0 (not-false _ (t .1 .0))))
+
+  pub an-output : eqb (kind w) 0 ≡ false → (0 < nodeCount w) × (c .nodes + nodeCount w ≤ 4096)
+  an-output z =
+      let t = all-passed (outputTests w c) (rw z at (header-sound .1)) in
+      let (p, q) = or-false (eqb (nodeCount w) 0) (ltb 4096 (c .nodes + nodeCount w)) (t .1 .1 .0) in
+      (omega (arith, eqb-false (nodeCount w) 0 p), ltb-false 4096 (c .nodes + nodeCount w) q)
+
+pub header-few : (w : ℕ) (c : Counts) → c .nodes ≤ 4096 → headerVerdict w c ≡ Sound → c .nodes + nodeCount w ≤ 4096
+header-few w c h e = go (eqb (kind w) 0) refl
+  where
+    go : (b : Bool) → eqb (kind w) 0 ≡ b → c .nodes + nodeCount w ≤ 4096
+    go true z = omega (arith, an-input w c e z .1)
+    go false z = an-output w c e z .1
+
+-- an exit that is not misplaced
+later-exit : (n k l : ℕ) → misplaced n k (suc (suc l)) ≡ false → (k < l) × (l < n)
+unfolding misplaced
+later-exit n k l e =
+    let (p, q) = or-false (leb (suc (suc l)) (k + 2)) (leb (n + 2) (suc (suc l))) (rw (lt-ltb 1 (suc (suc l)) (omega arith)) at e) in
+    omega (arith, leb-false (suc (suc l)) (k + 2) p, leb-false (n + 2) (suc (suc l)) q)
+
+-- sound nodes: a word due that is not wrong, a read, both exits, and all nodes from local node k on
+module _ (ws : List ℕ) where
+  word-sound : (p k : ℕ) (stray wrong : Bool) (r : Rule) → firstBroken (due ws p k (test stray StrayBit p ∷ test wrong r p ∷ [])) ≡ Sound
+      → (p < length ws) × (wrong ≡ false)
+  word-sound p k stray wrong r e =
+      let t = all-passed (due ws p k (test stray StrayBit p ∷ test wrong r p ∷ [])) e in
+      (leb-false (length ws) p (t .0), t .1 .1 .1 .0)
+
+  pub read-lower : (g p : ℕ) → readVerdict ws g p ≡ Sound → readGraph (word ws p) < g
+  unfolding readVerdict
+  read-lower g p e =
+      leb-false g (readGraph (word ws p))
+      (word-sound p 3 (not (eqb (readSpare (word ws p)) 0)) (leb g (readGraph (word ws p))) ReadNotBelow e .1)
+
+  pub exits-sound : (n k p : ℕ) → exitsVerdict ws n k p ≡ Sound
+      → (p < length ws) × ((misplaced n k (exitOf (word ws p) 0) ≡ false) × (misplaced n k (exitOf (word ws p) 1) ≡ false))
+  unfolding exitsVerdict
+  exits-sound n k p e =
+      let (l, t) = word-sound p 4 (not (eqb (exitsSpare (word ws p)) 0)) _ ExitNotLater e in
+      (l, or-false (misplaced n k (exitOf (word ws p) 0)) _ t)
+
+  pub later-exits : (n k p d l : ℕ) → exitsVerdict ws n k p ≡ Sound → exitOf (word ws p) d ≡ suc (suc l) → (k < l) × (l < n)
+  later-exits n k p zero l e z = later-exit n k l (rw z at (exits-sound n k p e .1 .0))
+  later-exits n k p (suc d) l e z = later-exit n k l (rw z at (exits-sound n k p e .1 .1))
+
+  pub nodes-sound : (g p n left k : ℕ) → nodesVerdict ws g p n left k ≡ Sound
+      → (i : ℕ) → k ≤ i → i < k + left → (readVerdict ws g (p + 1 + 2 * i) ≡ Sound) × (exitsVerdict ws n i (p + 2 + 2 * i) ≡ Sound)
+  unfolding nodesVerdict nodeVerdict
+  nodes-sound g p n zero k e i h l = absurd (omega arith)
+  nodes-sound g p n (suc left) k e i h l =
+      let (a, b) = then-sound (nodeVerdict ws g p n k) (nodesVerdict ws g p n left (suc k)) e in
+      elim (ℕ-discrete i k) [
+        | yes z ↦ rw z (then-sound (readVerdict ws g (p + 1 + 2 * k)) _ a)
+        | no z ↦ nodes-sound g p n left (suc k) b i (omega arith) (omega arith)
+      ]
+
+  pub node-exits : (g p n k : ℕ) → nodeVerdict ws g p n k ≡ Sound → exitsVerdict ws n k (p + 2 + 2 * k) ≡ Sound
+  unfolding nodeVerdict
+  node-exits g p n k e = then-sound (readVerdict ws g (p + 1 + 2 * k)) _ e .1
+
+  -- an exit names a node of the graph, or none
+  pub exits-inside : (n k p d : ℕ) → exitsVerdict ws n k p ≡ Sound → exitOf (word ws p) d < n + 2
+  exits-inside n k p d e = go (exitOf (word ws p) d) refl
+    where
+      go : (x : ℕ) → exitOf (word ws p) d ≡ x → x < n + 2
+      go zero z = omega arith
+      go (suc zero) z = omega arith
+      go (suc (suc l)) z = omega (arith, later-exits n k p d l e z)

@@ -1,0 +1,4 @@
+pub mod Answers
+pub mod Check
+pub mod Layout
+pub mod Shape

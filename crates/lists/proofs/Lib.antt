@@ -1,0 +1,5 @@
+-- The laws that proofs of functions and of other laws cite, each stated once.
+pub mod Tests
+pub mod Counting
+pub mod Net
+pub mod Tables

@@ -1,0 +1,57 @@
+-- Tables and buffers that a loop fills word by word. Assumes nothing.
+use Prim.Native.Nat.{ℕ, suc, _+_, _<_, _≤_}
+use mathlib.Core.Path.{_≡_, refl, sym, ap, _∙_}
+use mathlib.Core.List.{List, [], _∷_, _++_, append-assoc}
+use native.Mathlib.Omega.{arith}
+use native.Mathlib.Numerals.{add-one}
+use lib.ListN.{length, getD, set, take, drop, length-append, length-drop, List·getD-append}
+use lib.Seq.{drop-cons, set-at, take-at, ext-getD}
+use Rattle.lists.specs.Tables.{grow, tab, over}
+use Rattle.lists.proofs.Net.{length-grow, grow-solves}
+
+module _ (f : ℕ → ℕ) where
+  pub length-tab : (n : ℕ) → length (tab f n) ≡ n
+  length-tab n = length-grow (λ v. f) n
+
+  pub tab-at : (n i : ℕ) → i < n → getD (tab f n) i 0 ≡ f i
+  tab-at n i h = grow-solves (λ v. f) n (λ v w g l s. refl) i h
+
+-- two rules that agree below n make one table
+pub tab-same : (f g : ℕ → ℕ) (n : ℕ) → ((i : ℕ) → i < n → f i ≡ g i) → tab f n ≡ tab g n
+tab-same f g n e =
+    ext-getD 0 (tab f n) (tab g n) (length-tab f n ∙ sym (length-tab g n)) (λ i h.
+    let l : i < n = omega (arith, length-tab f n) in
+    tab-at f n i l ∙ e i l ∙ sym (tab-at g n i l))
+
+-- a list is the table of its own elements
+pub tab-self : (l : List ℕ) → tab (λ i. getD l i 0) (length l) ≡ l
+tab-self l =
+    ext-getD 0 (tab (λ i. getD l i 0) (length l)) l (length-tab (λ i. getD l i 0) (length l)) (λ i h.
+    tab-at (λ i. getD l i 0) (length l) i (omega (arith, length-tab (λ i. getD l i 0) (length l))))
+
+-- the first n words of a buffer are f's
+module _ (f : ℕ → ℕ) (d : List ℕ) where
+  pub over-none : over 0 f d ≡ d
+  unfolding grow
+  over-none = refl
+
+  -- one word more, as a loop stores it
+  pub over-more : (n : ℕ) → n < length d → set (over n f d) n (f n) ≡ over (suc n) f d
+  unfolding grow
+  over-more n h =
+      ap (λ (r : List ℕ). set (tab f n ++ r) n (f n)) (drop-cons d n 0 h)
+      ∙ set-at (tab f n) (getD d n 0) (drop (suc n) d) (f n) n (length-tab f n)
+      ∙ sym (append-assoc (tab f n) (f n ∷ []) (drop (suc n) d))
+
+  pub over-store : (n v : ℕ) → n < length d → v ≡ f n → set (over n f d) n v ≡ over (n + 1) f d
+  over-store n v h e = rw (e, add-one n) (over-more n h)
+
+  pub over-at : (n i : ℕ) → i < n → getD (over n f d) i 0 ≡ f i
+  over-at n i h = List·getD-append (tab f n) (drop n d) 0 i (rw (length-tab f n) h) ∙ tab-at f n i h
+
+  pub length-over : (n : ℕ) → n ≤ length d → length (over n f d) ≡ length d
+  length-over n h = length-append (tab f n) (drop n d) ∙ rw (length-tab f n, length-drop n d) (omega arith)
+
+  -- the front of it alone
+  pub over-front : (n : ℕ) → take n (over n f d) ≡ tab f n
+  over-front n = take-at (tab f n) (drop n d) n (length-tab f n)

@@ -1,0 +1,3 @@
+-- The laws that proofs of functions and of other laws cite, each stated once.
+pub mod Fields
+pub mod Bytes

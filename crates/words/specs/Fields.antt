@@ -1,0 +1,39 @@
+-- The fields of a 32-bit word, by division and remainder. Bit 0 is the lowest. Assumes nothing.
+use Prim.Native.Nat.{ℕ, zero, suc, _/_, _%_, _^_}
+
+-- bits 31..29: what kind of word it is
+abbrev pub kind : ℕ → ℕ
+kind w = w / 2 ^ 29
+
+-- bits 28..0, which must be zero in an input
+abbrev pub inputSpare : ℕ → ℕ
+inputSpare w = w % 2 ^ 29
+
+-- bits 28..16, which must be zero in an output graph's header
+abbrev pub headerSpare : ℕ → ℕ
+headerSpare w = w / 2 ^ 16 % 2 ^ 13
+
+-- bits 28..16, which must be zero in a read: a name of its own, so that a change of the format alters it alone
+abbrev pub readSpare : ℕ → ℕ
+readSpare w = w / 2 ^ 16 % 2 ^ 13
+
+-- bit 28, which must be zero in a pair of exits
+abbrev pub exitsSpare : ℕ → ℕ
+exitsSpare w = w / 2 ^ 28 % 2
+
+-- bits 15..0 of a header: how many nodes follow
+abbrev pub nodeCount : ℕ → ℕ
+nodeCount w = w % 2 ^ 16
+
+-- bits 15..0 of a read: which graph is read
+abbrev pub readGraph : ℕ → ℕ
+readGraph w = w % 2 ^ 16
+
+-- one of a pair of exits: at decision 0 bits 27..14, at decision 1 bits 13..0
+abbrev pub exitOf : ℕ → ℕ → ℕ
+exitOf w zero = w / 2 ^ 14 % 2 ^ 14
+exitOf w (suc d) = w % 2 ^ 14
+
+-- bit i
+abbrev pub bitOf : ℕ → ℕ → ℕ
+bitOf w i = w / 2 ^ i % 2
