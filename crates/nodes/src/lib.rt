@@ -56,14 +56,16 @@ fn check_exits(card: &[u32], n: usize, k: usize, at: usize) -> Exits
     let Due::Word(w) = reader::word_due(card, at) else {
         return Exits::Bad(Rule::WordNotDue, card.len());
     };
-    if words::kind(w) != 4 {
-        return Exits::Bad(Rule::WordNotDue, at);
-    }
-    if words::exits_spare(w) != 0 {
-        return Exits::Bad(Rule::StrayBit, at);
-    }
+    let kind = words::kind(w);
+    let spare = words::exits_spare(w);
     let e0 = words::exit0(w);
     let e1 = words::exit1(w);
+    if kind != 4 {
+        return Exits::Bad(Rule::WordNotDue, at);
+    }
+    if spare != 0 {
+        return Exits::Bad(Rule::StrayBit, at);
+    }
     if is_misplaced(n, k, e0) {
         return Exits::Bad(Rule::ExitNotLater, at);
     }

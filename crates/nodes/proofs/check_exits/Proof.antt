@@ -17,34 +17,34 @@ returns c =
 returns-2 : tie.Need-returns-2
 unfolding exitsVerdict exitsTold
 returns-2 c =
-    let (h, e) = due-word _ _ _ (sym (c .before .before .before .before .before .word-due .ensures) ∙ c .before .before .before .w .given .1) in
-    rw (lt-leb _ _ h, ← e, ← c .before .kind .ensures, ne-eqb _ _ (c .if1 .taken))
+    let (h, e) = due-word _ _ _ (sym (c .before .before .before .before .before .before .before .before .word-due .ensures) ∙ c .before .before .before .before .before .before .w .given .1) in
+    rw (lt-leb _ _ h, ← e, ← c .before .before .before .before .kind .ensures, ne-eqb _ _ (c .if1 .taken))
 
 returns-3 : tie.Need-returns-3
 unfolding exitsVerdict exitsTold
 returns-3 c =
-    let (h, e) = due-word _ _ _ (sym (c .before .before .before .before .before .before .before .word-due .ensures) ∙ c .before .before .before .before .before .w .given .1) in
-    rw (lt-leb _ _ h, ← e, ← c .before .before .before .kind .ensures, eq-eqb _ _ (c .before .before .if1 .left), ← c .before .exits-spare .ensures, ne-eqb _ _ (c .if2 .taken))
+    let (h, e) = due-word _ _ _ (sym (c .before .before .before .before .before .before .before .before .before .word-due .ensures) ∙ c .before .before .before .before .before .before .before .w .given .1) in
+    rw (lt-leb _ _ h, ← e, ← c .before .before .before .before .before .kind .ensures, eq-eqb _ _ (c .before .if1 .left), ← c .before .before .before .before .exits-spare .ensures, ne-eqb _ _ (c .if2 .taken))
 
 returns-4 : tie.Need-returns-4
 unfolding exitsVerdict exitsTold
 returns-4 c =
     let (h, e) = due-word _ _ _ (sym (c .before .before .before .before .before .before .before .before .before .before .before .word-due .ensures) ∙ c .before .before .before .before .before .before .before .before .before .w .given .1) in
-    rw (lt-leb _ _ h, ← e, ← c .before .before .before .before .before .before .before .kind .ensures, eq-eqb _ _ (c .before .before .before .before .before .before .if1 .left), ← c .before .before .before .before .before .exits-spare .ensures, eq-eqb _ _ (c .before .before .before .before .if2 .left), ← c .before .before .before .exit0 .ensures, ← c .before .is-misplaced .ensures, c .if3 .taken)
+    rw (lt-leb _ _ h, ← e, ← c .before .before .before .before .before .before .before .kind .ensures, eq-eqb _ _ (c .before .before .before .if1 .left), ← c .before .before .before .before .before .before .exits-spare .ensures, eq-eqb _ _ (c .before .before .if2 .left), ← c .before .before .before .before .before .exit0 .ensures, ← c .before .is-misplaced .ensures, c .if3 .taken)
 
 returns-5 : tie.Need-returns-5
 unfolding exitsVerdict exitsTold
 returns-5 c =
     let (h, e) = due-word _ _ _ (sym (c .before .before .before .before .before .before .before .before .before .before .before .before .before .word-due .ensures) ∙ c .before .before .before .before .before .before .before .before .before .before .before .w .given .1) in
-    rw (lt-leb _ _ h, ← e, ← c .before .before .before .before .before .before .before .before .before .kind .ensures, eq-eqb _ _ (c .before .before .before .before .before .before .before .before .if1 .left), ← c .before .before .before .before .before .before .before .exits-spare .ensures, eq-eqb _ _ (c .before .before .before .before .before .before .if2 .left), ← c .before .before .before .before .before .exit0 .ensures, ← c .before .before .before .is-misplaced .ensures, c .before .before .if3 .left, ← c .before .before .before .before .exit1 .ensures, ← c .before .is-misplaced2 .ensures, c .if4 .taken)
+    rw (lt-leb _ _ h, ← e, ← c .before .before .before .before .before .before .before .before .before .kind .ensures, eq-eqb _ _ (c .before .before .before .before .before .if1 .left), ← c .before .before .before .before .before .before .before .before .exits-spare .ensures, eq-eqb _ _ (c .before .before .before .before .if2 .left), ← c .before .before .before .before .before .before .before .exit0 .ensures, ← c .before .before .before .is-misplaced .ensures, c .before .before .if3 .left, ← c .before .before .before .before .before .before .exit1 .ensures, ← c .before .is-misplaced2 .ensures, c .if4 .taken)
 
 returns-6 : tie.Need-returns-6
 unfolding exitsVerdict exitsTold
 returns-6 c =
     let (h, e) = due-word _ _ _ (sym (c .before .before .before .before .before .before .before .before .before .before .before .before .before .word-due .ensures) ∙ c .before .before .before .before .before .before .before .before .before .before .before .w .given .1) in
-    rw (lt-leb _ _ h, ← e, ← c .before .before .before .before .before .before .before .before .before .kind .ensures, eq-eqb _ _ (c .before .before .before .before .before .before .before .before .if1 .left), ← c .before .before .before .before .before .before .before .exits-spare .ensures, eq-eqb _ _ (c .before .before .before .before .before .before .if2 .left), ← c .before .before .before .before .before .exit0 .ensures, ← c .before .before .before .is-misplaced .ensures, c .before .before .if3 .left, ← c .before .before .before .before .exit1 .ensures, ← c .before .is-misplaced2 .ensures, c .if4 .left) (rw (c .before .before .before .before .before .exit0 .ensures, c .before .before .before .before .exit1 .ensures))
+    rw (lt-leb _ _ h, ← e, ← c .before .before .before .before .before .before .before .before .before .kind .ensures, eq-eqb _ _ (c .before .before .before .before .before .if1 .left), ← c .before .before .before .before .before .before .before .before .exits-spare .ensures, eq-eqb _ _ (c .before .before .before .before .if2 .left), ← c .before .before .before .before .before .before .before .exit0 .ensures, ← c .before .before .before .is-misplaced .ensures, c .before .before .if3 .left, ← c .before .before .before .before .before .before .exit1 .ensures, ← c .before .is-misplaced2 .ensures, c .if4 .left) (rw (c .before .before .before .before .before .before .before .exit0 .ensures, c .before .before .before .before .before .before .exit1 .ensures))
 
 pub check-exits-spec : {M : Type 1} → statement M
 check-exits-spec =
     tie.close
-    (tie.spec (λ c κs. search needs) (λ c. search needs) (λ c. search needs) returns (λ c κs. search needs) returns-2 (λ c κs. search needs) returns-3 (λ c κs. search needs) (λ c κs. search needs) (λ c κs. search needs) returns-4 (λ c κs. search needs) returns-5 returns-6)
+    (tie.spec (λ c κs. search needs) (λ c. search needs) (λ c. search needs) returns (λ c κs. search needs) (λ c κs. search needs) (λ c κs. search needs) (λ c κs. search needs) returns-2 returns-3 (λ c κs. search needs) returns-4 (λ c κs. search needs) returns-5 returns-6)
