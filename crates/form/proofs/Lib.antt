@@ -3,4 +3,5 @@
 pub mod Places
 pub mod Verdicts
 pub mod Checked
+pub mod Calls
 pub mod Examples

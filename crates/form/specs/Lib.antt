@@ -1,4 +1,5 @@
 pub mod Answers
+pub mod Calls
 pub mod Check
 pub mod Layout
 pub mod Shape

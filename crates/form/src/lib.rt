@@ -33,6 +33,13 @@ pub enum Answer {
     Refused(Rule, usize),
 }
 
+// The reply of a call that works on a card: done, with the number that document 01 says it tells beside its buffer (the length of a
+// change list, the marked count of a grading, else 0); or refused, as a check is.
+pub enum Reply {
+    Done(usize),
+    Refused(Rule, usize),
+}
+
 // What a part of the check finds.
 pub enum Verdict {
     Sound,

@@ -1,0 +1,82 @@
+-- The steps of the evaluators, said of the definitions: what is saved, what is read, and where a walk goes on. Assumes nothing.
+use Prim.Native.Nat.{ℕ, _+_, _<_, _≤_}
+use mathlib.Core.Path.{_≡_, sym, ap, _∙_}
+use mathlib.Core.List.{List}
+use native.Mathlib.Omega.{arith}
+use native.Mathlib.Decide.{ℕ-discrete}
+use lib.ListN.{getD, set, length-set}
+use lib.Seq.{getD-set-same, getD-set-other}
+use Rattle.form.specs.Layout.{first, size}
+use Rattle.form.proofs.Places.{one-place}
+use Rattle.vectors.specs.Vectors.{bit}
+use Rattle.value.specs.Settings.{faulty}
+use Rattle.value.proofs.Values.{node-below, value-input, value-output}
+use Rattle.value.specs.Run.{Run, graphOf, nodeOf, Ready}
+use Rattle.value.proofs.Run.{first-is}
+use Rattle.plain.specs.Saved.{Saved, Found}
+
+module _ {t : Run} {firsts : List ℕ} (y : Ready t firsts) where
+  -- a value saved at its place
+  pub save-node : {xs : List ℕ} → Saved t xs → (g k v : ℕ) → g < t .counts .graphs → k < size (t .card) g → v ≡ nodeOf t g k
+      → Saved t (set xs (first (t .card) g + k) v)
+  save-node {xs} s g k v h l e =
+      let p = first (t .card) g + k in
+      let low : p < t .counts .nodes = node-below (y .shape) g k h l in
+      record {
+        long = simp length-set (s .long);
+        nodes = λ i j h′ l′ b. elim (ℕ-discrete (first (t .card) i + j) p) [
+          | yes z ↦
+              let (a, c) = one-place (t .card) g i k j l l′ (sym z) in
+              rw (a, c) (getD-set-same xs p v 0 (omega (arith, s .long)) ∙ e)
+          | no n ↦
+              let q = getD-set-other xs p (first (t .card) i + j) v 0 n in
+              q ∙ s .nodes i j h′ l′ (rw q at b)
+        ];
+        graphs = λ i h′ b.
+            let q = getD-set-other xs p (t .counts .nodes + i) v 0 (λ z. omega arith) in
+            q ∙ s .graphs i h′ (rw q at b);
+      }
+
+  pub save-graph : {xs : List ℕ} → Saved t xs → (g v : ℕ) → g < t .counts .graphs → v ≡ graphOf t g → Saved t (set xs (t .counts .nodes + g) v)
+  save-graph {xs} s g v h e =
+      let p = t .counts .nodes + g in
+      record {
+        long = simp length-set (s .long);
+        nodes = λ i j h′ l′ b.
+            let low = node-below (y .shape) i j h′ l′ in
+            let q = getD-set-other xs p (first (t .card) i + j) v 0 (λ z. omega arith) in
+            q ∙ s .nodes i j h′ l′ (rw q at b);
+        graphs = λ i h′ b. elim (ℕ-discrete i g) [
+          | yes z ↦ rw z (getD-set-same xs p v 0 (omega (arith, s .long)) ∙ e)
+          | no n ↦
+              let q = getD-set-other xs p (t .counts .nodes + i) v 0 (λ z. n (omega arith)) in
+              q ∙ s .graphs i h′ (rw q at b)
+        ];
+      }
+
+  -- local node k of graph g, whose first node the table gives as f
+  module _ {g k f : ℕ} (h : g < t .counts .graphs) (l : k < size (t .card) g) (e : f ≡ getD firsts g 0) where
+    pub node-known : {xs : List ℕ} {r : ℕ} → Saved t xs → r ≡ getD xs (f + k) 0 → r < 2 → Found t (nodeOf t g k) r xs
+    node-known {xs} s q b =
+        let z = q ∙ ap (λ (n : ℕ). getD xs (n + k) 0) (first-is y h l e) in
+        record { right = z ∙ s .nodes g k h l (rw z at b); saved = s }
+
+    pub node-saved : {xs ys : List ℕ} {v : ℕ} → Saved t xs → v ≡ nodeOf t g k → ys ≡ set xs (f + k) v → Found t (nodeOf t g k) v ys
+    node-saved s w u = record { right = w; saved = rw (u, (first-is y h l e)) (save-node s g k _ h l w) }
+
+  module _ {g : ℕ} (h : g < t .counts .graphs) where
+    pub graph-known : {xs : List ℕ} {r : ℕ} → Saved t xs → r ≡ getD xs (t .counts .nodes + g) 0 → r < 2 → Found t (graphOf t g) r xs
+    graph-known s q b = record { right = q ∙ s .graphs g h (rw q at b); saved = s }
+
+    pub graph-saved : {xs ys : List ℕ} {v : ℕ} → Saved t xs → v ≡ graphOf t g → ys ≡ set xs (t .counts .nodes + g) v → Found t (graphOf t g) v ys
+    graph-saved s w u = record { right = w; saved = rw u (save-graph s g _ h w) }
+
+    pub input-value : {b v : ℕ} → g < t .counts .inputs → b ≡ bit (t .vector) g → v ≡ faulty (t .faults) (t .counts .nodes + g) b → v ≡ graphOf t g
+    input-value i q w =
+        w ∙ ap (faulty (t .faults) (t .counts .nodes + g)) q
+        ∙ sym (value-input (y .shape) (faulty (t .faults)) (t .vector) g h (y .shape .input g i .0))
+
+    pub output-value : {b v : ℕ} → t .counts .inputs ≤ g → b ≡ nodeOf t g 0 → v ≡ faulty (t .faults) (t .counts .nodes + g) b → v ≡ graphOf t g
+    output-value i q w =
+        w ∙ ap (faulty (t .faults) (t .counts .nodes + g)) q
+        ∙ sym (value-output (y .shape) (faulty (t .faults)) (t .vector) g h (y .shape .output g h i .0))

@@ -1,0 +1,4 @@
+-- What the proofs of the evaluators and of the calls cite.
+
+mod Laws
+mod Calls

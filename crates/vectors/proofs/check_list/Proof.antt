@@ -1,0 +1,30 @@
+-- `vectors::check_list` meets its contract. Assumes nothing.
+use borrow.Author.Tests.{lt-ltb, le-ltb, eq-eqb, ne-eqb}
+use borrow.Author.Needs.{needs}
+use Rattle.vectors.proofs.Laws.{width-some}
+use Rattle.vectors.specs.Vectors.{listVerdict}
+use Rattle.vectors.proofs.check_list.Statement.{statement}
+use Rattle.vectors.proofs.check_list.Tie as tie
+
+rem-if1 : tie.Need-rem-if1
+rem-if1 c = rw (c .width .ensures) (width-some _ (c .before .before .pre .0))
+
+returns : tie.Need-returns
+unfolding listVerdict
+returns c = rw (← c .before .width .ensures, ne-eqb _ _ (c .if1 .taken))
+
+div-if2 : tie.Need-div-if2
+div-if2 c = rw (c .before .width .ensures) (width-some _ (c .before .before .before .pre .0))
+
+returns-2 : tie.Need-returns-2
+unfolding listVerdict
+returns-2 c = rw (← c .before .before .width .ensures, eq-eqb _ _ (c .before .if1 .left), lt-ltb _ _ (c .if2 .taken))
+
+returns-3 : tie.Need-returns-3
+unfolding listVerdict
+returns-3 c = rw (← c .before .before .before .width .ensures, eq-eqb _ _ (c .before .before .if1 .left), le-ltb _ _ (c .before .if2 .left)) (c .check-words .ensures)
+
+pub check-list-spec : {M : Type 1} → statement M
+check-list-spec =
+    tie.close
+    (tie.spec (λ c κs. search needs) rem-if1 returns div-if2 returns-2 (λ c κs. search needs) returns-3)
