@@ -179,6 +179,13 @@ pub fn check(card: &[u32]) -> Answer
     check_with(card, 0)
 }
 
+// Room for the first nodes of any card.
+pub fn first_table() -> [u32; 1025]
+    ensures { λ r. ⌜ 1025 ≡ length r ⌝ }
+{
+    [0u32; 1025]
+}
+
 // The first node of each graph of an accepted card, and after the last the number of nodes.
 pub fn first_nodes(card: &[u32], c: Counts, firsts: &mut [u32])
     requires { ⌜ Shape (now card) c × (c .graphs < length (now firsts)) ⌝ }

@@ -1,12 +1,15 @@
 -- Tables and buffers that a loop fills word by word. Assumes nothing.
-use Prim.Native.Nat.{ℕ, suc, _+_, _<_, _≤_}
+use Prim.Native.Nat.{ℕ, zero, suc, _+_, _<_, _≤_}
 use mathlib.Core.Path.{_≡_, refl, sym, ap, _∙_}
 use mathlib.Core.List.{List, [], _∷_, _++_, append-assoc}
+use mathlib.Core.Bool.{Bool, true, false}
 use native.Mathlib.Omega.{arith}
+use native.Mathlib.Nat.{add-zero}
 use native.Mathlib.Numerals.{add-one}
 use lib.ListN.{length, getD, set, take, drop, length-append, length-drop, List·getD-append}
 use lib.Seq.{drop-cons, set-at, take-at, ext-getD}
-use Rattle.lists.specs.Tables.{grow, tab, over}
+use Rattle.lists.specs.Counting.{choose, count}
+use Rattle.lists.specs.Tables.{grow, tab, over, onlyIf, chosen, front}
 use Rattle.lists.proofs.Net.{length-grow, grow-solves}
 
 module _ (f : ℕ → ℕ) where
@@ -55,3 +58,31 @@ module _ (f : ℕ → ℕ) (d : List ℕ) where
   -- the front of it alone
   pub over-front : (n : ℕ) → take n (over n f d) ≡ tab f n
   over-front n = take-at (tab f n) (drop n d) n (length-tab f n)
+
+-- two rules that agree below n make one buffer
+pub over-same : (f g : ℕ → ℕ) (d : List ℕ) (n : ℕ) → ((i : ℕ) → i < n → f i ≡ g i) → over n f d ≡ over n g d
+over-same f g d n e = ap (_++ drop n d) (tab-same f g n e)
+
+-- numbers that pass, and a buffer that has them at its front
+length-one : (b : Bool) (n : ℕ) → length (onlyIf b n) ≡ choose b 1 0
+length-one true n = refl
+length-one false n = refl
+
+pub length-chosen : (p : ℕ → Bool) (n : ℕ) → length (chosen p n) ≡ count p n
+unfolding chosen count
+length-chosen p zero = refl
+length-chosen p (suc n) = length-append (chosen p n) (onlyIf (p n) n) ∙ rw (length-chosen p n, length-one (p n) n)
+
+pub chosen-same : (p q : ℕ → Bool) (n : ℕ) → ((k : ℕ) → k < n → p k ≡ q k) → chosen p n ≡ chosen q n
+unfolding chosen
+chosen-same p q zero h = refl
+chosen-same p q (suc n) h = rw (chosen-same p q n (λ k l. h k (omega arith)), h n (omega arith))
+
+-- one store after the front
+pub front-more : (xs d : List ℕ) (n v : ℕ) → length xs ≡ n → n < length d → set (front xs d) n v ≡ front (xs ++ (v ∷ [])) d
+front-more xs d n v e h =
+    let l : length xs < length d = omega arith in
+    ap (λ (r : List ℕ). set (xs ++ r) n v) (drop-cons d (length xs) 0 l)
+    ∙ set-at xs (getD d (length xs) 0) (drop (suc (length xs)) d) v n e
+    ∙ sym (append-assoc xs (v ∷ []) (drop (suc (length xs)) d))
+    ∙ ap (λ (m : ℕ). (xs ++ (v ∷ [])) ++ drop m d) (sym (length-append xs (v ∷ []) ∙ add-one (length xs)))

@@ -1,7 +1,8 @@
 -- Lists made by a rule, and buffers whose front is so made. Assumes nothing.
 use Prim.Native.Nat.{ℕ, zero, suc}
 use mathlib.Core.List.{List, [], _∷_, _++_}
-use lib.ListN.{getD, drop}
+use mathlib.Core.Bool.{Bool, true, false}
+use lib.ListN.{length, getD, drop}
 
 -- what stands at place g of a list, and 0 past its end
 abbrev pub at : List ℕ → ℕ → ℕ
@@ -30,3 +31,16 @@ over n f buffer = tab f n ++ drop n buffer
 -- the same number everywhere
 abbrev pub always : ℕ → ℕ → ℕ
 always v i = v
+
+-- the numbers below n that pass a test, rising
+abbrev pub onlyIf : Bool → ℕ → List ℕ
+onlyIf true n = n ∷ []
+onlyIf false n = []
+
+unfoldable pub chosen : (ℕ → Bool) → ℕ → List ℕ
+chosen p zero = []
+chosen p (suc n) = chosen p n ++ onlyIf (p n) n
+
+-- a buffer whose front is a list, and the rest as it was
+abbrev pub front : List ℕ → List ℕ → List ℕ
+front xs buffer = xs ++ drop (length xs) buffer

@@ -78,13 +78,6 @@ fn graph_value(
     v
 }
 
-// Room for the first nodes of any card.
-fn first_table() -> [u32; 1025]
-    ensures { λ r. ⌜ 1025 ≡ length r ⌝ }
-{
-    [0u32; 1025]
-}
-
 // Room for the values of all places of any card, none of them known: a value is 0 or 1.
 fn unknown() -> [u32; 5120]
     ensures { λ r. ⌜ (5120 ≡ length r) × ((i : ℕ) → i < 5120 → getD r i 0 ≡ 2) ⌝ }
@@ -97,7 +90,7 @@ fn work_out(card: &[u32], c: Counts, vector: &[u32], faults: &[u32], values: &mu
     requires { ⌜ Shape (now card) c × (width (c .inputs) ≤ length (now vector)) × (c .graphs ≤ length (now values)) ⌝ }
     ensures { λ _. ⌜ now (values .exit) ≡ over (c .graphs) (value (now (card .entry)) c (faulty (now (faults .entry))) (now (vector .entry))) (now (values .entry)) ⌝ }
 {
-    let mut firsts = first_table();
+    let mut firsts = card::first_table();
     card::first_nodes(card, c, &mut firsts);
     let mut saved = unknown();
     let mut g = 0;

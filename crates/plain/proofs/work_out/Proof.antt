@@ -36,7 +36,7 @@ loop-holds c =
     )
 
 graph-value-requires : tie.Need-graph-value-requires Inv-loop μ-loop
-graph-value-requires c κs = let l = c .before .before .before .before .loop in (l .inv .3, c .before .before .if1 .taken, l .inv .4)
+graph-value-requires c κs = let l = c .before .before .before .before .loop in (l .inv .3, omega (arith, l .inv .3 .shape .inputs-in), l .inv .4)
 
 loop-again : tie.Need-loop-again Inv-loop μ-loop
 loop-again c =

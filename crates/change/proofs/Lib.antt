@@ -1,0 +1,3 @@
+-- What the proofs of the change walk cite.
+
+pub mod Laws

@@ -1,0 +1,3 @@
+-- The tests of the calls, and lists that grow.
+
+mod Laws

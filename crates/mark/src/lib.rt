@@ -1,0 +1,113 @@
+// What changes under one vector: change lists and critical nodes, by the marking rules.
+ghost use mathlib.Core.Path.{_≡_};
+ghost use Prim.Native.Nat.{_+_, _≤_, _<_};
+ghost use lib.ListN.{length};
+ghost use Rattle.lists.specs.Counting.{choose, count};
+ghost use Rattle.lists.specs.Tables.{onlyIf, chosen, front};
+ghost use Rattle.form.specs.Shape.{Shape};
+ghost use Rattle.vectors.specs.Vectors.{width};
+ghost use Rattle.detect.specs.Detects.{changes};
+ghost use Rattle.rules.specs.Rules.{flipped, listed};
+ghost use Rattle.sweep.specs.Swept.{Swept};
+ghost use Rattle.change.specs.Flips.{Has};
+ghost use Rattle.mark.specs.Calls.{changeReply, changeBuffer};
+ghost use Rattle.mark.specs.Noted.{Noted};
+use form::Answer;
+use form::Counts;
+use form::Reply;
+use form::Rule;
+use form::Verdict;
+
+// Room for the values of all places, and of all graphs, of any card.
+fn place_table() -> [u32; 5120]
+    ensures { λ r. ⌜ 5120 ≡ length r ⌝ }
+{
+    [0u32; 5120]
+}
+
+fn graph_table() -> [u32; 1024]
+    ensures { λ r. ⌜ 1024 ≡ length r ⌝ }
+{
+    [0u32; 1024]
+}
+
+// Number h follows the n numbers at the front of a list, if it is to.
+fn note(list: &mut [u32], n: usize, h: usize, differs: bool) -> usize
+    requires { ⌜ (n < length (now list)) × (h ≤ 1024) ⌝ }
+    ensures { λ r. ⌜ Noted (now (list .entry)) n h differs r (now (list .exit)) ⌝ }
+{
+    if differs {
+        list[n] = h as u32;
+        return n + 1;
+    }
+    n
+}
+
+// The graphs that differ from their good values, in the front of the list; and how many they are.
+fn list_changes(
+    card: &[u32],
+    c: Counts,
+    vector: &[u32],
+    places: &[u32],
+    g: usize,
+    flips: &[u32],
+    list: &mut [u32],
+) -> usize
+    requires { ⌜ Swept (now card) c (now vector) (c .graphs) (now places) × Has (flipped (now card) c (now vector) g) (c .graphs) (now flips)
+        × (c .graphs ≤ 1024) × (c .nodes ≤ 4096) × (c .graphs ≤ length (now list)) ⌝ }
+    ensures { λ r. ⌜ (r ≡ count (listed (now (card .entry)) c (now (vector .entry)) g) (c .graphs))
+        × (now (list .exit) ≡ front (chosen (listed (now (card .entry)) c (now (vector .entry)) g) (c .graphs)) (now (list .entry))) ⌝ }
+{
+    let mut n = 0;
+    let mut h = 0;
+    while h < c.graphs {
+        n = note(
+            list,
+            n,
+            h,
+            lists::get(flips, h) != lists::get(places, c.nodes + h),
+        );
+        h += 1;
+    }
+    n
+}
+
+// The change list of graph g of an accepted card.
+fn work_out_changes(card: &[u32], c: Counts, vector: &[u32], g: usize, list: &mut [u32]) -> usize
+    requires { ⌜ Shape (now card) c × (width (c .inputs) ≤ length (now vector)) × (g < c .graphs) × (c .graphs ≤ length (now list)) ⌝ }
+    ensures { λ r. ⌜ (r ≡ count (changes (now (card .entry)) c (now (vector .entry)) g) (c .graphs))
+        × (now (list .exit) ≡ front (chosen (changes (now (card .entry)) c (now (vector .entry)) g) (c .graphs)) (now (list .entry))) ⌝ }
+{
+    let mut firsts = card::first_table();
+    card::first_nodes(card, c, &mut firsts);
+    let mut places = place_table();
+    sweep::sweep(card, c, &firsts, vector, &mut places);
+    let mut flips = graph_table();
+    change::restore(card, c, vector, &places, &mut flips);
+    change::change(card, c, &firsts, vector, g, &mut flips);
+    list_changes(card, c, vector, &places, g, &flips, list)
+}
+
+// The change list of a graph: its length, and the numbers rising in the front of the buffer.
+pub fn change_list(card: &[u32], vector: &[u32], graph: u32, list: &mut [u32]) -> Reply
+    ensures { λ r. ⌜ (r ≡ changeReply (now (card .entry)) (now (vector .entry)) graph (now (list .entry)))
+        × (now (list .exit) ≡ changeBuffer (now (card .entry)) (now (vector .entry)) graph (now (list .entry))) ⌝ }
+{
+    match card::check(card) {
+        Answer::Refused(rule, position) => Reply::Refused(rule, position),
+        Answer::Accepted(c) => {
+            let inputs = c.inputs;
+            let g = graph as usize;
+            if let Verdict::Broken(rule, position) = vectors::check_vector(inputs, vector) {
+                return Reply::Refused(rule, position);
+            }
+            if c.graphs <= g {
+                return Reply::Refused(Rule::NumberTooHigh, 0);
+            }
+            if list.len() < c.graphs {
+                return Reply::Refused(Rule::BufferTooShort, 0);
+            }
+            Reply::Done(work_out_changes(card, c, vector, g, list))
+        }
+    }
+}

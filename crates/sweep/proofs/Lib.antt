@@ -1,0 +1,3 @@
+-- What the proofs of the sweep cite.
+
+pub mod Laws
