@@ -16,7 +16,7 @@ use Rattle.form.specs.declared.Rule.{Rule}
 use Rattle.form.specs.declared.Rule.the-variants.{NumberTooHigh, BufferTooShort}
 use Rattle.form.specs.declared.Verdict.the-variants.{Sound, Broken}
 use Rattle.vectors.specs.Vectors.{vectorVerdict}
-use Rattle.mark.specs.Calls.{changeTests}
+use Rattle.mark.specs.Calls.{changeTests, criticalTests}
 use Rattle.mark.specs.Noted.{storedIf}
 
 -- the front of a buffer after h numbers were looked at
@@ -52,3 +52,18 @@ module _ (x : List ℕ) (g room : ℕ) (c : Counts) where
       pub tests-sound : c .graphs ≤ room → changeTests x g room c ≡ Sound
       unfolding changeTests
       tests-sound l = rw (e, lt-leb _ _ h, le-ltb _ _ l)
+
+-- the tests of critical nodes
+module _ (x : List ℕ) (room : ℕ) (c : Counts) where
+  pub critical-vector : {r : Rule} {p : ℕ} → vectorVerdict (c .inputs) x ≡ Broken r p → criticalTests x room c ≡ Broken r p
+  unfolding criticalTests
+  critical-vector e = rw e
+
+  module _ (e : vectorVerdict (c .inputs) x ≡ Sound) where
+    pub critical-room : room < c .nodes → criticalTests x room c ≡ Broken BufferTooShort 0
+    unfolding criticalTests
+    critical-room l = rw (e, lt-ltb _ _ l)
+
+    pub critical-sound : c .nodes ≤ room → criticalTests x room c ≡ Sound
+    unfolding criticalTests
+    critical-sound l = rw (e, le-ltb _ _ l)

@@ -1,16 +1,17 @@
 // What changes under one vector: change lists and critical nodes, by the marking rules.
 ghost use mathlib.Core.Path.{_≡_};
 ghost use Prim.Native.Nat.{_+_, _≤_, _<_};
-ghost use lib.ListN.{length};
+ghost use lib.ListN.{length, getD};
+ghost use lib.Dec.{ltb};
 ghost use Rattle.lists.specs.Counting.{choose, count};
-ghost use Rattle.lists.specs.Tables.{onlyIf, chosen, front};
+ghost use Rattle.lists.specs.Tables.{over, chosen, front};
 ghost use Rattle.form.specs.Shape.{Shape};
 ghost use Rattle.vectors.specs.Vectors.{width};
-ghost use Rattle.detect.specs.Detects.{changes};
+ghost use Rattle.detect.specs.Detects.{changes, criticalAt};
 ghost use Rattle.rules.specs.Rules.{flipped, listed};
 ghost use Rattle.sweep.specs.Swept.{Swept};
 ghost use Rattle.change.specs.Flips.{Has};
-ghost use Rattle.mark.specs.Calls.{changeReply, changeBuffer};
+ghost use Rattle.mark.specs.Calls.{changeReply, changeBuffer, criticalReply, criticalBuffer};
 ghost use Rattle.mark.specs.Noted.{Noted};
 use form::Answer;
 use form::Counts;
@@ -108,6 +109,82 @@ pub fn change_list(card: &[u32], vector: &[u32], graph: u32, list: &mut [u32]) -
                 return Reply::Refused(Rule::BufferTooShort, 0);
             }
             Reply::Done(work_out_changes(card, c, vector, g, list))
+        }
+    }
+}
+
+// Room for the nodes of any card.
+fn node_table() -> [u32; 4096]
+    ensures { λ r. ⌜ 4096 ≡ length r ⌝ }
+{
+    [0u32; 4096]
+}
+
+// 1 where a fault is caught at a place, else 0.
+fn is_caught(caught: u32) -> u32
+    ensures { λ r. ⌜ r ≡ choose (ltb caught 2) 1 0 ⌝ }
+{
+    if caught < 2 {
+        return 1;
+    }
+    0
+}
+
+// The same for the first n places, into a buffer.
+fn flag_places(caught: &[u32], n: usize, flags: &mut [u32])
+    requires { ⌜ (n ≤ length (now caught)) × (n ≤ length (now flags)) ⌝ }
+    ensures { λ _. ⌜ now (flags .exit) ≡ over n (λ j. choose (ltb (getD (now (caught .entry)) j 0) 2) 1 0) (now (flags .entry)) ⌝ }
+{
+    let mut j = 0;
+    while j < n {
+        flags[j] = is_caught(lists::get(caught, j));
+        j += 1;
+    }
+}
+
+// The critical nodes of an accepted card.
+fn work_out_critical(card: &[u32], c: Counts, vector: &[u32], nodes: &mut [u32])
+    requires { ⌜ Shape (now card) c × (width (c .inputs) ≤ length (now vector)) × (c .nodes ≤ length (now nodes)) ⌝ }
+    ensures { λ _. ⌜ now (nodes .exit) ≡ over (c .nodes) (λ j. choose (criticalAt (now (card .entry)) c (now (vector .entry)) j) 1 0) (now (nodes .entry)) ⌝ }
+{
+    let mut firsts = card::first_table();
+    card::first_nodes(card, c, &mut firsts);
+    let mut places = place_table();
+    sweep::sweep(card, c, &firsts, vector, &mut places);
+    let mut flips = graph_table();
+    change::restore(card, c, vector, &places, &mut flips);
+    let mut caught = node_table();
+    let mut graphs = graph_table();
+    catches::catch_all(
+        card,
+        c,
+        &firsts,
+        vector,
+        &places,
+        &mut flips,
+        &mut caught,
+        &mut graphs,
+    );
+    flag_places(&caught, c.nodes, nodes)
+}
+
+// Critical nodes: one word for each node, 1 where forcing its other exit alters an observable graph, else 0.
+pub fn critical_nodes(card: &[u32], vector: &[u32], nodes: &mut [u32]) -> Reply
+    ensures { λ r. ⌜ (r ≡ criticalReply (now (card .entry)) (now (vector .entry)) (now (nodes .entry)))
+        × (now (nodes .exit) ≡ criticalBuffer (now (card .entry)) (now (vector .entry)) (now (nodes .entry))) ⌝ }
+{
+    match card::check(card) {
+        Answer::Refused(rule, position) => Reply::Refused(rule, position),
+        Answer::Accepted(c) => {
+            let inputs = c.inputs;
+            if let Verdict::Broken(rule, position) = vectors::check_vector(inputs, vector) {
+                return Reply::Refused(rule, position);
+            }
+            if nodes.len() < c.nodes {
+                return Reply::Refused(Rule::BufferTooShort, 0);
+            }
+            work_out_critical(card, c, vector, nodes);
+            Reply::Done(0)
         }
     }
 }

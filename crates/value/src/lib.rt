@@ -39,7 +39,7 @@ pub fn graph_read(card: &[u32], g: usize, j: usize) -> usize
 }
 
 // The exit of node j, of graph g, at a decision.
-fn exit_at(card: &[u32], g: usize, j: usize, decision: u32) -> usize
+pub fn exit_at(card: &[u32], g: usize, j: usize, decision: u32) -> usize
     requires { ⌜ g + 2 + 2 * j < length (now card) ⌝ }
     ensures { λ r. ⌜ r ≡ exitOf (getD (now (card .entry)) (g + 2 + 2 * j) 0) decision ⌝ }
 {

@@ -1,0 +1,60 @@
+-- The active path of a graph, node by node. Assumes nothing.
+use Prim.Native.Nat.{ℕ, zero, suc, _+_, _<_, _≤_}
+use mathlib.Core.Path.{_≡_, refl, _∙_}
+use mathlib.Core.List.{List}
+use mathlib.Core.Bool.{Bool, true, false}
+use native.Mathlib.Omega.{arith}
+use borrow.Author.Tests.{ne-eqb}
+use Rattle.form.specs.declared.Counts.{Counts}
+use Rattle.form.specs.Layout.{size}
+use Rattle.form.specs.Shape.{Shape}
+use Rattle.value.specs.Settings.{good}
+use Rattle.value.specs.Values.{taken}
+use Rattle.value.proofs.Values.{taken-later}
+use Rattle.detect.specs.Detects.{goodValue}
+use Rattle.rules.specs.Rules.{beyond, meets, active}
+use Rattle.rules.proofs.Meets.{meets-law, meets-between, meets-self}
+use Rattle.rules.proofs.Changes.{active-start}
+use Rattle.catches.specs.Due.{Due}
+
+module _ {ws : List ℕ} {c : Counts} (a : Shape ws c) (x : List ℕ) (g : ℕ) (h : g < c .graphs) where
+  abbrev t : ℕ → ℕ
+  t = taken ws good (goodValue ws c x) g
+
+  -- the entrance is due first
+  pub due-first : 0 < size ws g → Due ws c x g 0 2
+  due-first l = record { next = λ i p q. active-start a x g i; later = λ n e. (omega arith, omega arith) }
+
+  -- the node that is due is active, and the path goes on by the exit that it takes
+  module _ {k : ℕ} (i : k < size ws g) where
+    pub due-active : Due ws c x g k (k + 2) → active ws c x g k ≡ true
+    due-active d =
+        let e : k + 2 ≡ suc (suc k) = omega arith in
+        d .next k (omega arith) i ∙ rw e (meets-self t (size ws g) k (omega arith))
+
+    pub due-onward : Due ws c x g k (k + 2) → Due ws c x g (k + 1) (t k)
+    due-onward d = record {
+      next = λ j p q.
+          let e : k + 2 ≡ suc (suc k) = omega arith in
+          d .next j (omega arith) q ∙ rw e (meets-law t (size ws g) j (taken-later a good x (goodValue ws c x) g h) k i ∙ rw (ne-eqb k j (λ z. omega arith)));
+      later = λ l e. let r = taken-later a good x (goodValue ws c x) g h k l i e in (omega arith, r .1);
+    }
+
+    -- any other is not, and what is due stays due
+    not-met : (e : ℕ) → (e ≡ k + 2 → ⊥) → ((l : ℕ) → e ≡ suc (suc l) → (k ≤ l) × (l < size ws g)) → beyond (meets t k (size ws g)) e ≡ false
+    not-met zero n r = refl
+    not-met (suc zero) n r = refl
+    not-met (suc (suc l)) n r = go (meets t k (size ws g) l) refl
+      where
+        go : (b : Bool) → meets t k (size ws g) l ≡ b → b ≡ false
+        go true z = absurd (omega (arith, meets-between t (size ws g) (taken-later a good x (goodValue ws c x) g h) k (size ws g) l (r l refl .1) z, r l refl))
+        go false z = refl
+
+    pub due-idle : {e : ℕ} → Due ws c x g k e → (e ≡ k + 2 → ⊥) → active ws c x g k ≡ false
+    due-idle {e} d n = d .next k (omega arith) i ∙ not-met e n (d .later)
+
+    pub due-stays : {e : ℕ} → Due ws c x g k e → (e ≡ k + 2 → ⊥) → Due ws c x g (k + 1) e
+    due-stays d n = record {
+      next = λ j p q. d .next j (omega arith) q;
+      later = λ l z. let r = d .later l z in (omega arith, r .1);
+    }
