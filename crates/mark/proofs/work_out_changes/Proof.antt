@@ -26,7 +26,7 @@ restore-requires c κs = (c .before .before .before .before .sweep .ensures, ome
 change-requires : tie.Need-change-requires
 change-requires c κs =
     let s = c .before .before .before .before .before .before .before .before .before .before .before .before .before .before .before .before .before .before .before in
-    (made-ready _ _ _ _ (s .pre .0) (s .pre .1) (omega (arith, s .pre .0 .few-graphs, c .before .before .before .before .before .before .before .before .before .before .before .before .before .before .before .first-table .ensures)) (c .before .before .before .before .before .before .before .before .before .before .before .before .before .first-nodes .ensures), s .pre .2, c .before .before .before .restore .ensures)
+    (made-ready _ _ _ _ (s .pre .0) (s .pre .1) (omega (arith, s .pre .0 .few-graphs, c .before .before .before .before .before .before .before .before .before .before .before .before .before .before .before .first-table .ensures)) (c .before .before .before .before .before .before .before .before .before .before .before .before .before .first-nodes .ensures), omega (arith, s .pre .2), c .before .before .before .restore .ensures)
 
 list-changes-requires : tie.Need-list-changes-requires
 list-changes-requires c κs = let s = c .before .before .before .before .before .before .before .before .before .before .before .before .before .before .before .before .before .before .before .before .before .before .before .before in (c .before .before .before .before .before .before .before .before .before .before .before .before .before .sweep .ensures, c .before .before .before .before .change .ensures, s .pre .0 .few-graphs, s .pre .0 .few-nodes, s .pre .3)
