@@ -40,21 +40,25 @@ module _ {ws : List ℕ} {c : Counts} (a : Shape ws c) (x : List ℕ) (g : ℕ) 
       later = λ l e. let r = taken-later a good x (goodValue ws c x) g h k l i e in (omega arith, r .1);
     }
 
-    -- any other is not, and what is due stays due
-    not-met : (e : ℕ) → (e ≡ k + 2 → ⊥) → ((l : ℕ) → e ≡ suc (suc l) → (k ≤ l) × (l < size ws g)) → beyond (meets t k (size ws g)) e ≡ false
-    not-met zero n r = refl
-    not-met (suc zero) n r = refl
-    not-met (suc (suc l)) n r = go (meets t k (size ws g) l) refl
-      where
-        go : (b : Bool) → meets t k (size ws g) l ≡ b → b ≡ false
-        go true z = absurd (omega (arith, meets-between t (size ws g) (taken-later a good x (goodValue ws c x) g h) k (size ws g) l (r l refl .1) z, r l refl))
-        go false z = refl
+  -- those that the path passes by are not active
+  not-met : (e i : ℕ) → ((l : ℕ) → e ≡ suc (suc l) → (i < l) × (l < size ws g)) → beyond (meets t i (size ws g)) e ≡ false
+  not-met zero i r = refl
+  not-met (suc zero) i r = refl
+  not-met (suc (suc l)) i r = go (meets t i (size ws g) l) refl
+    where
+      go : (b : Bool) → meets t i (size ws g) l ≡ b → b ≡ false
+      go true z = absurd (omega (arith, meets-between t (size ws g) (taken-later a good x (goodValue ws c x) g h) i (size ws g) l (r l refl .1) z, r l refl))
+      go false z = refl
 
-    pub due-idle : {e : ℕ} → Due ws c x g k e → (e ≡ k + 2 → ⊥) → active ws c x g k ≡ false
-    due-idle {e} d n = d .next k (omega arith) i ∙ not-met e n (d .later)
+  pub due-idle : {k e : ℕ} → Due ws c x g k e → (i : ℕ) → k ≤ i → i < size ws g → ((l : ℕ) → e ≡ suc (suc l) → i < l) → active ws c x g i ≡ false
+  due-idle {k} {e} d i p q r = d .next i p q ∙ not-met e i (λ l z. (r l z, d .later l z .1))
 
-    pub due-stays : {e : ℕ} → Due ws c x g k e → (e ≡ k + 2 → ⊥) → Due ws c x g (k + 1) e
-    due-stays d n = record {
-      next = λ j p q. d .next j (omega arith) q;
-      later = λ l z. let r = d .later l z in (omega arith, r .1);
-    }
+  -- and the node that it comes to is due
+  pub due-reached : {k e : ℕ} → Due ws c x g k e → (l : ℕ) → e ≡ suc (suc l) → Due ws c x g l (l + 2)
+  due-reached {k} {e} d l z =
+      let r = d .later l z in
+      let z′ : e ≡ l + 2 = omega arith in
+      record {
+        next = λ i p q. rw (← z′) (d .next i (omega arith) q);
+        later = λ m u. let s = d .later m (z′ ∙ u) in (omega arith, s .1);
+      }

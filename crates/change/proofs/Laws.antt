@@ -1,30 +1,25 @@
--- The steps of a change walk and of the search for a listed observable graph, said of the definitions. Assumes nothing.
+-- The steps of a change walk, said of the definitions. Assumes nothing.
 use Prim.Native.Nat.{ℕ, zero, suc, _+_, _-_, _*_, _<_, _≤_}
-use mathlib.Core.Path.{_≡_, refl, sym, ap, ap₂, _∙_}
+use mathlib.Core.Path.{_≡_, refl, sym, ap, _∙_}
 use mathlib.Core.List.{List, []}
-use mathlib.Core.Bool.{Bool, true, false, not, _&&_}
 use native.Mathlib.Omega.{arith}
 use native.Mathlib.Decide.{ℕ-discrete}
-use native.Mathlib.Numerals.{add-one}
 use lib.ListN.{length, getD, set, length-set}
 use lib.Seq.{getD-set-same, getD-set-other}
 use lib.Dec.{eqb}
-use Rattle.words.specs.Fields.{readGraph, kind}
-use Rattle.lists.proofs.Tests.{and-none, and-all, agree, differ, some-has}
+use Rattle.words.specs.Fields.{readGraph, exitOf, kind}
 use Rattle.form.specs.declared.Counts.{Counts}
 use Rattle.form.specs.Layout.{first, observable, size, exits}
 use Rattle.form.proofs.Places.{first-few}
-use Rattle.value.specs.Settings.{good, faulty}
+use Rattle.value.specs.Settings.{good}
 use Rattle.value.specs.Values.{follow, walk, decides, taken, graph, value}
 use Rattle.value.specs.Run.{run, Ready}
 use Rattle.value.proofs.Settings.{good-keeps}
 use Rattle.value.proofs.Walk.{node-law}
 use Rattle.value.proofs.Values.{taken-later, graph-lower, value-input, value-bit}
-use Rattle.value.proofs.Run.{read-is}
-use Rattle.detect.specs.Detects.{observed}
-use Rattle.rules.specs.Rules.{flipped, critical}
+use Rattle.value.proofs.Run.{place-is, read-is}
+use Rattle.rules.specs.Rules.{flipped}
 use Rattle.rules.proofs.Changes.{flipped-below, flipped-here, flipped-gives}
-use Rattle.sweep.specs.Swept.{Swept}
 use Rattle.change.specs.Flips.{Has, Between}
 
 follow-constant : (f : ℕ → ℕ) (e : ℕ) → e < 2 → follow f e ≡ e
@@ -36,13 +31,14 @@ module _ {ws x firsts : List ℕ} {c : Counts} (y : Ready (run ws c [] x) firsts
   -- one graph walked with the values of a buffer: local node k of graph h, whose first node the table gives as f, reads graph r and takes exit e
   module _ {h k f : ℕ} (m : h < c .graphs) (l : k < size ws h) (p : f ≡ getD firsts h 0) (xs : List ℕ)
       {r v e : ℕ} (q : r ≡ readGraph (getD ws (h + 1 + 2 * (f + k)) 0)) (u : v ≡ getD xs r 0)
-      (z : e ≡ exits ws h k (faulty [] (first ws h + k) (decides ws h k v))) where
+      (z : e ≡ exitOf (getD ws (h + 2 + 2 * (f + k)) 0) v) where
     abbrev t : ℕ → ℕ
     t = taken ws good (λ g. getD xs g 0) h
 
     exit-is : t k ≡ e
-    unfolding faulty
-    exit-is = sym (z ∙ ap (λ (n : ℕ). exits ws h k (decides ws h k n)) (u ∙ ap (λ (n : ℕ). getD xs n 0) (read-is y m l p q)))
+    unfolding exits decides
+    exit-is =
+        sym (z ∙ ap (λ (n : ℕ). exitOf (getD ws (h + 2 + 2 * n) 0) v) (place-is y m l p) ∙ ap (exits ws h k) (u ∙ ap (λ (n : ℕ). getD xs n 0) (read-is y m l p q)))
 
     law : walk t (size ws h) k ≡ follow (walk t (size ws h)) e
     law = node-law t (size ws h) (taken-later (y .shape) good x (λ g. getD xs g 0) h m) k l ∙ ap (follow (walk t (size ws h))) exit-is
@@ -143,38 +139,3 @@ has-more {v} {h} {n} {xs} {ys} s l e z = rw z record {
     | no o ↦ getD-set-other xs h i n 0 o ∙ s .word i (omega arith)
   ];
 }
-
--- one graph compared
-pub same-there : (o : Bool) {a b m n : ℕ} → a ≡ m → b ≡ n → a ≡ b → false ≡ o && not (eqb m n)
-same-there o p q e = sym (and-none o (agree _ _ (sym p ∙ e ∙ q)))
-
-pub other-there : {o r : Bool} {a b m n : ℕ} → a ≡ m → b ≡ n → (a ≡ b → ⊥) → r ≡ o → r ≡ o && not (eqb m n)
-other-there {o} p q d e = e ∙ sym (and-all o (differ _ _ (λ z. d (p ∙ z ∙ sym q))))
-
--- the search for a listed observable graph
-module _ {ws x places flips : List ℕ} {c : Counts} (g : ℕ) (s : Swept ws c x (c .graphs) places) (f : Has (flipped ws c x g) (c .graphs) flips) where
-  abbrev b : ℕ → Bool
-  b h = observable ws h && not (eqb (getD flips h 0) (getD places (c .nodes + h) 0))
-
-  abbrev d : ℕ → Bool
-  d h = observable ws h && not (eqb (flipped ws c x g h) (value ws c good x h))
-
-  differs-is : (h : ℕ) → h < c .graphs → d h ≡ b h
-  differs-is h l = ap₂ (λ (m n : ℕ). observable ws h && not (eqb m n)) (sym (f .word h l)) (sym (s .graphs h l))
-
-  pub critical-found : (h : ℕ) {r : Bool} → h < c .graphs → r ≡ b h → r ≡ true → true ≡ critical ws c x g
-  unfolding critical observed
-  critical-found h l e q = sym (some-has d (c .graphs) h l (differs-is h l ∙ sym e ∙ q))
-
-  pub critical-more : (h : ℕ) {r : Bool} → h < c .graphs → r ≡ b h → r ≡ false → observed ws h (value ws c good x) (flipped ws c x g) ≡ false
-      → observed ws (h + 1) (value ws c good x) (flipped ws c x g) ≡ false
-  unfolding observed
-  critical-more h l e q n = rw (add-one, n) (differs-is h l ∙ sym e ∙ q)
-
-pub critical-start : (ws : List ℕ) (v w : ℕ → ℕ) → observed ws 0 v w ≡ false
-unfolding observed
-critical-start ws v w = refl
-
-pub critical-end : (ws x : List ℕ) (c : Counts) (g h : ℕ) → h ≡ c .graphs → observed ws h (value ws c good x) (flipped ws c x g) ≡ false → false ≡ critical ws c x g
-unfolding critical
-critical-end ws x c g h e n = sym (rw e at n)

@@ -1,21 +1,19 @@
 // The change walk of rule 2: one graph is flipped, and those above it are walked again with the flipped values.
 ghost use mathlib.Core.Path.{_≡_};
 ghost use mathlib.Core.List.{[]};
-ghost use mathlib.Core.Bool.{not, _&&_};
-ghost use Prim.Native.Nat.{ℕ, _+_, _≤_, _<_};
+ghost use Prim.Native.Nat.{_+_, _≤_, _<_};
 ghost use lib.ListN.{length, getD};
-ghost use lib.Dec.{eqb};
 ghost use Rattle.form.specs.Layout.{size, observable};
 ghost use Rattle.value.specs.Settings.{good};
 ghost use Rattle.value.specs.Values.{walk, taken, value};
 ghost use Rattle.value.specs.Run.{run, Ready};
-ghost use Rattle.rules.specs.Rules.{flipped, critical};
+ghost use Rattle.rules.specs.Rules.{flipped};
 ghost use Rattle.sweep.specs.Swept.{Swept};
 ghost use Rattle.change.specs.Flips.{Has, Between};
 use form::Counts;
 
 // The value of output graph h where the graphs have the values of the buffer: its walk from the entrance.
-fn walk_graph(
+pub fn walk_graph(
     card: &[u32],
     c: Counts,
     firsts: &[u32],
@@ -26,14 +24,13 @@ fn walk_graph(
     requires { ⌜ Ready (run (now card) c [] (now vector)) (now firsts) × (h < c .graphs) × (0 < size (now card) h) × (h ≤ length (now flips)) ⌝ }
     ensures { λ r. ⌜ r ≡ walk (taken (now (card .entry)) good (λ g. getD (now (flips .entry)) g 0) h) (size (now (card .entry)) h) 0 ⌝ }
 {
-    let none = [0u32; 1];
     let first = value::first_node(firsts, h);
     let mut k = 0;
     loop {
         let j = first + k;
         let read = value::graph_read(card, h, j);
         let v = lists::get(flips, read);
-        let e = value::exit_taken(card, &none[..0], h, k, j, v);
+        let e = value::exit_at(card, h, j, v);
         if e < 2 {
             return e as u32;
         }
@@ -90,53 +87,10 @@ pub fn restore(card: &[u32], c: Counts, vector: &[u32], places: &[u32], flips: &
 }
 
 // Whether graph h is observable.
-fn is_observable(card: &[u32], firsts: &[u32], c: Counts, vector: &[u32], h: usize) -> bool
+pub fn is_observable(card: &[u32], firsts: &[u32], c: Counts, vector: &[u32], h: usize) -> bool
     requires { ⌜ Ready (run (now card) c [] (now vector)) (now firsts) × (h < c .graphs) ⌝ }
     ensures { λ r. ⌜ r ≡ observable (now (card .entry)) h ⌝ }
 {
     let first = value::first_node(firsts, h);
     words::kind(lists::get(card, h + 2 * first)) == 2
-}
-
-// Whether graph h is observable and has another value in the change walk than in the sweep.
-fn differs(
-    card: &[u32],
-    c: Counts,
-    firsts: &[u32],
-    vector: &[u32],
-    places: &[u32],
-    h: usize,
-    flips: &[u32],
-) -> bool
-    requires { ⌜ Ready (run (now card) c [] (now vector)) (now firsts) × (h < c .graphs) × (c .nodes + c .graphs ≤ length (now places)) × (c .graphs ≤ length (now flips)) ⌝ }
-    ensures { λ r. ⌜ r ≡ observable (now (card .entry)) h && not (eqb (getD (now (flips .entry)) h 0) (getD (now (places .entry)) (c .nodes + h) 0)) ⌝ }
-{
-    if lists::get(flips, h) == lists::get(places, c.nodes + h) {
-        return false;
-    }
-    is_observable(card, firsts, c, vector, h)
-}
-
-// Whether graph g is critical, where the buffer has its change walk: rule 3.
-pub fn is_critical(
-    card: &[u32],
-    c: Counts,
-    firsts: &[u32],
-    vector: &[u32],
-    places: &[u32],
-    g: usize,
-    flips: &[u32],
-) -> bool
-    requires { ⌜ Ready (run (now card) c [] (now vector)) (now firsts) × (g < c .graphs) × Swept (now card) c (now vector) (c .graphs) (now places)
-        × Has (flipped (now card) c (now vector) g) (c .graphs) (now flips) ⌝ }
-    ensures { λ r. ⌜ r ≡ critical (now (card .entry)) c (now (vector .entry)) g ⌝ }
-{
-    let mut h = 0;
-    while h < c.graphs {
-        if differs(card, c, firsts, vector, places, h, flips) {
-            return true;
-        }
-        h += 1;
-    }
-    false
 }

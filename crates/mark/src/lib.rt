@@ -19,19 +19,6 @@ use form::Reply;
 use form::Rule;
 use form::Verdict;
 
-// Room for the values of all places, and of all graphs, of any card.
-fn place_table() -> [u32; 5120]
-    ensures { λ r. ⌜ 5120 ≡ length r ⌝ }
-{
-    [0u32; 5120]
-}
-
-fn graph_table() -> [u32; 1024]
-    ensures { λ r. ⌜ 1024 ≡ length r ⌝ }
-{
-    [0u32; 1024]
-}
-
 // Number h follows the n numbers at the front of a list, if it is to.
 fn note(list: &mut [u32], n: usize, h: usize, differs: bool) -> usize
     requires { ⌜ (n < length (now list)) × (h ≤ 1024) ⌝ }
@@ -81,9 +68,9 @@ fn work_out_changes(card: &[u32], c: Counts, vector: &[u32], g: usize, list: &mu
 {
     let mut firsts = card::first_table();
     card::first_nodes(card, c, &mut firsts);
-    let mut places = place_table();
+    let mut places = catches::place_table();
     sweep::sweep(card, c, &firsts, vector, &mut places);
-    let mut flips = graph_table();
+    let mut flips = catches::graph_table();
     change::restore(card, c, vector, &places, &mut flips);
     change::change(card, c, &firsts, vector, g, &mut flips);
     list_changes(card, c, vector, &places, g, &flips, list)
@@ -111,13 +98,6 @@ pub fn change_list(card: &[u32], vector: &[u32], graph: u32, list: &mut [u32]) -
             Reply::Done(work_out_changes(card, c, vector, g, list))
         }
     }
-}
-
-// Room for the nodes of any card.
-fn node_table() -> [u32; 4096]
-    ensures { λ r. ⌜ 4096 ≡ length r ⌝ }
-{
-    [0u32; 4096]
 }
 
 // 1 where a fault is caught at a place, else 0.
@@ -149,21 +129,25 @@ fn work_out_critical(card: &[u32], c: Counts, vector: &[u32], nodes: &mut [u32])
 {
     let mut firsts = card::first_table();
     card::first_nodes(card, c, &mut firsts);
-    let mut places = place_table();
-    sweep::sweep(card, c, &firsts, vector, &mut places);
-    let mut flips = graph_table();
-    change::restore(card, c, vector, &places, &mut flips);
-    let mut caught = node_table();
-    let mut graphs = graph_table();
-    catches::catch_all(
+    let mut lows = catches::graph_table();
+    let mut highs = catches::graph_table();
+    reach::read_ranges(card, c, &firsts, &mut lows, &mut highs);
+    let mut live = catches::graph_table();
+    lists::fill(&mut live, c.graphs, 1);
+    let mut places = catches::place_table();
+    let mut flips = catches::graph_table();
+    let mut caught = catches::place_table();
+    catches::catch_vector(
         card,
         c,
         &firsts,
+        &lows,
+        &highs,
         vector,
-        &places,
+        &live,
+        &mut places,
         &mut flips,
         &mut caught,
-        &mut graphs,
     );
     flag_places(&caught, c.nodes, nodes)
 }

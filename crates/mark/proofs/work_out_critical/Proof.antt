@@ -1,49 +1,54 @@
 -- `mark::work_out_critical` meets its contract. Assumes nothing.
 use Prim.Native.Nat.{ℕ}
 use mathlib.Core.Bool.{Bool}
+use mathlib.Core.List.{[]}
 use mathlib.Core.Path.{ap, _∙_}
 use native.Mathlib.Omega.{arith}
 use lib.Dec.{ltb}
 use borrow.Author.Needs.{needs}
 use Rattle.catches.proofs.Caught.{critical-word}
-use Rattle.value.proofs.Run.{made-ready}
-use Rattle.lists.proofs.Tables.{over-same}
+use Rattle.catches.proofs.Told.{told-all}
+use Rattle.lists.proofs.Tables.{over-at, over-same}
 use Rattle.lists.specs.Counting.{choose}
+use Rattle.lists.specs.Tables.{always}
+use Rattle.value.proofs.Run.{made-ready}
 use Rattle.mark.proofs.work_out_critical.Statement.{statement}
 use Rattle.mark.proofs.work_out_critical.Tie as tie
 
-first-nodes-requires : tie.Need-first-nodes-requires
-first-nodes-requires c κs = let s = c .before .before .before .before .before in (s .pre .0, omega (arith, s .pre .0 .few-graphs, c .before .first-table .ensures))
+read-ranges-requires : tie.Need-read-ranges-requires
+read-ranges-requires c κs =
+    let s = c .before .before .before .before .before .before .before .before .before .before .before .before .pre in
+    let f = s .0 .few-graphs in
+    let y = made-ready [] (c .before .before .before .before .before .before .before .before .before .before .before .before .args .vector .now) _ _ (s .0) (s .1) (omega (arith, f, c .before .before .before .before .before .before .before .before .first-table .ensures)) (c .before .before .before .before .before .before .first-nodes .ensures) in
+    (record { shape = s .0; long = y .long; table = y .table }, omega (arith, f, c .before .before .before .before .graph-table .ensures), omega (arith, f, c .before .before .before .graph-table2 .ensures))
 
-sweep-requires : tie.Need-sweep-requires
-sweep-requires c κs =
-    let s = c .before .before .before .before .before .before .before .before .before .before in
-    (made-ready _ _ _ _ (s .pre .0) (s .pre .1) (omega (arith, s .pre .0 .few-graphs, c .before .before .before .before .before .before .first-table .ensures)) (c .before .before .before .before .first-nodes .ensures), omega (arith, s .pre .0 .few-graphs, s .pre .0 .few-nodes, c .before .before .place-table .ensures))
-
-restore-requires : tie.Need-restore-requires
-restore-requires c κs = (c .before .before .before .before .sweep .ensures, omega (arith, c .before .before .before .before .before .before .before .before .before .before .before .before .before .before .before .pre .0 .few-graphs, c .before .before .graph-table .ensures))
-
-catch-all-requires : tie.Need-catch-all-requires
-catch-all-requires c κs =
-    let s = c .before .before .before .before .before .before .before .before .before .before .before .before .before .before .before .before .before .before .before .before .before .before .before .before in (
-      record { ready = made-ready _ _ _ _ (s .pre .0) (s .pre .1) (omega (arith, s .pre .0 .few-graphs, c .before .before .before .before .before .before .before .before .before .before .before .before .before .before .before .before .before .before .before .before .first-table .ensures)) (c .before .before .before .before .before .before .before .before .before .before .before .before .before .before .before .before .before .before .first-nodes .ensures); swept = c .before .before .before .before .before .before .before .before .before .before .before .before .before .sweep .ensures },
-      c .before .before .before .before .before .before .before .before .restore .ensures,
-      omega (arith, s .pre .0 .few-nodes, c .before .before .before .before .before .before .node-table .ensures),
-      omega (arith, s .pre .0 .few-graphs, c .before .before .before .before .before .graph-table2 .ensures),
+catch-vector-requires : tie.Need-catch-vector-requires
+catch-vector-requires c κs =
+    let s = c .before .before .before .before .before .before .before .before .before .before .before .before .before .before .before .before .before .before .before .before .before .before .before .before .before .before .before .before .before .pre in
+    let f = s .0 .few-graphs in
+    let n = s .0 .few-nodes in (
+      made-ready _ _ _ _ (s .0) (s .1) (omega (arith, f, c .before .before .before .before .before .before .before .before .before .before .before .before .before .before .before .before .before .before .before .before .before .before .before .before .before .first-table .ensures)) (c .before .before .before .before .before .before .before .before .before .before .before .before .before .before .before .before .before .before .before .before .before .before .before .first-nodes .ensures),
+      c .before .before .before .before .before .before .before .before .before .before .before .before .before .before .before .before .read-ranges .ensures,
+      record {
+        live-long = omega (arith, f, c .before .before .before .before .before .before .before .before .before .before .before .before .before .graph-table3 .ensures, c .before .before .before .before .before .before .before .before .before .before .before .fill .kept .0);
+        places-long = omega (arith, f, n, c .before .before .before .before .before .before .before .before .before .place-table .ensures);
+        flips-long = omega (arith, f, c .before .before .before .before .before .before .before .before .graph-table4 .ensures);
+        caught-long = omega (arith, f, n, c .before .before .before .before .before .before .before .place-table2 .ensures);
+      },
     )
 
 flag-places-requires : tie.Need-flag-places-requires
-flag-places-requires c κs = (c .before .before .before .before .before .catch-all .ensures .nodes-long, c .before .before .before .before .before .before .before .before .before .before .before .before .before .before .before .before .before .before .before .before .before .before .before .before .before .before .before .before .before .before .pre .2)
+flag-places-requires c κs = (omega (arith, c .before .before .before .before .before .catch-vector .ensures .long), c .before .before .before .before .before .before .before .before .before .before .before .before .before .before .before .before .before .before .before .before .before .before .before .before .before .before .before .before .before .before .before .before .before .before .before .pre .2)
 
 returns : tie.Need-returns
 returns c =
-    let s = c .before .before .before .before .before .before .before .before .before .before .before .before .before .before .before .before .before .before .before .before .before .before .before .before .before .before .before .before .before .before .before .before .before in
-    let w = c .before .before .before .before .before .before .before .before .catch-all .ensures .at-nodes in
+    let s = c .before .before .before .before .before .before .before .before .before .before .before .before .before .before .before .before .before .before .before .before .before .before .before .before .before .before .before .before .before .before .before .before .before .before .before .before .before .before .pre in
+    let l = c .before .before .before .before .before .before .before .before .before .before .before .before .before .before .before .before .before .before .before .before .fill .ensures in
     c .before .before .flag-places .ensures ∙ over-same _ _ _ _ (λ j h.
-    let i = w .word j (rw (s .pre .0 .nodes-in) h) in
-    ap (λ (b : Bool). choose b 1 0) (ap (λ (n : ℕ). ltb n 2) i ∙ critical-word (s .pre .0) _ j h))
+    let t = told-all (s .0) (c .before .before .before .before .before .before .before .before .catch-vector .ensures) j h (λ g i. rw l (over-at (always 1) _ _ g i)) in
+    ap (λ (b : Bool). choose b 1 0) (ap (λ (n : ℕ). ltb n 2) t ∙ critical-word (s .0) _ j h))
 
 pub work-out-critical-spec : {M : Type 1} → statement M
 work-out-critical-spec =
     tie.close
-    (tie.spec (λ c κs. search needs) (λ c. search needs) first-nodes-requires (λ c κs. search needs) (λ c. search needs) (λ c. search needs) sweep-requires (λ c κs. search needs) (λ c. search needs) (λ c. search needs) restore-requires (λ c κs. search needs) (λ c κs. search needs) (λ c. search needs) (λ c. search needs) (λ c. search needs) (λ c. search needs) (λ c. search needs) catch-all-requires (λ c. search needs) flag-places-requires (λ c. search needs) returns)
+    (tie.spec (λ c κs. search needs) (λ c. search needs) (λ c κs. search needs) (λ c κs. search needs) (λ c κs. search needs) (λ c. search needs) (λ c. search needs) (λ c. search needs) read-ranges-requires (λ c κs. search needs) (λ c. search needs) (λ c κs. search needs) (λ c κs. search needs) (λ c κs. search needs) (λ c κs. search needs) (λ c. search needs) (λ c. search needs) (λ c. search needs) (λ c. search needs) (λ c. search needs) (λ c. search needs) (λ c. search needs) catch-vector-requires (λ c. search needs) flag-places-requires (λ c. search needs) returns)

@@ -1,0 +1,115 @@
+-- How the words of one graph, and then of all graphs, come into the buffer. Assumes nothing.
+use Prim.Native.Nat.{ℕ, _+_, _-_, _<_, _≤_}
+use mathlib.Core.Path.{_≡_, refl, sym, _∙_}
+use mathlib.Core.List.{List, []}
+use native.Mathlib.Omega.{arith}
+use native.Mathlib.Decide.{ℕ-discrete, decLt}
+use lib.ListN.{length, getD, set, length-set}
+use lib.Seq.{getD-set-same, getD-set-other}
+use Rattle.form.specs.declared.Counts.{Counts}
+use Rattle.form.specs.Layout.{first, size}
+use Rattle.form.specs.Shape.{Shape}
+use Rattle.form.proofs.Places.{apart, first-few}
+use Rattle.value.specs.Run.{run, Ready}
+use Rattle.value.proofs.Values.{node-below}
+use Rattle.sweep.proofs.Laws.{size-is}
+use Rattle.catches.specs.Caught.{caughtAt}
+use Rattle.catches.specs.Told.{Told, wordAt}
+use Rattle.catches.specs.Words.{Blank, Along, Written}
+
+-- a run of words that become 2, one by one
+pub blank-none : (a : ℕ) (xs : List ℕ) → Blank a a xs xs
+blank-none a xs = record { long = refl; inside = λ j p q. absurd (omega arith); outside = λ j n. refl }
+
+pub blank-more : {a b : ℕ} {xs ys zs : List ℕ} → Blank a b xs ys → a ≤ b → b < length ys → zs ≡ set ys b 2 → Blank a (b + 1) xs zs
+blank-more {a} {b} {xs} {ys} s l m z = rw z (record {
+  long = simp length-set (s .long);
+  inside = λ j p q. elim (ℕ-discrete j b) [
+    | yes e ↦ rw e (getD-set-same ys b 2 0 m)
+    | no n ↦ getD-set-other ys b j 2 0 n ∙ s .inside j p (omega arith)
+  ];
+  outside = λ j n. getD-set-other ys b j 2 0 (λ e. n (omega arith) (omega arith)) ∙ s .outside j (λ p q. n p (omega arith));
+})
+
+module _ {ws : List ℕ} {c : Counts} {x : List ℕ} {g : ℕ} where
+  -- the nodes of a graph, as the table of first nodes gives them
+  pub nodes-inside : {firsts : List ℕ} {f n : ℕ} → Ready (run ws c [] x) firsts → g < c .graphs → f ≡ getD firsts g 0 → n ≡ getD firsts (g + 1) 0 → (f ≤ n) × (n ≤ c .nodes)
+  nodes-inside y h e u = (omega (arith, size-is y h e u), rw (u ∙ y .table (g + 1) (omega arith)) (first-few (y .shape) (g + 1) (omega arith)))
+
+  pub blank-nodes-are : {firsts xs ys : List ℕ} {f n : ℕ} → Ready (run ws c [] x) firsts → g < c .graphs → f ≡ getD firsts g 0 → n ≡ getD firsts (g + 1) 0
+      → Blank f n xs ys → Along ws c x g 0 xs ys
+  blank-nodes-are {firsts} {xs} {ys} {f} {n} y h e u s =
+      let z : f ≡ first ws g = e ∙ y .table g (omega arith) in
+      let m = size-is y h e u in
+      record {
+        long = s .long;
+        below = λ i p q. absurd (omega arith);
+        onward = λ i p q. s .inside (first ws g + i) (omega arith) (omega arith);
+        outside = λ j r. s .outside j (λ p q. r (j - f) (omega arith) (omega arith));
+      }
+
+  -- one node stored, and those up to m where nothing is caught
+  pub along-more : {k m v : ℕ} {xs ys zs : List ℕ} → Along ws c x g k xs ys → k < size ws g → first ws g + k < length ys
+      → zs ≡ set ys (first ws g + k) v → v ≡ caughtAt ws c x (first ws g + k)
+      → k < m → ((i : ℕ) → k < i → i < m → i < size ws g → caughtAt ws c x (first ws g + i) ≡ 2) → Along ws c x g m xs zs
+  along-more {k} {m} {v} {xs} {ys} s l r z e q idle =
+      let j = first ws g + k in
+      let other : (i : ℕ) → (i ≡ k → ⊥) → getD (set ys j v) (first ws g + i) 0 ≡ getD ys (first ws g + i) 0 =
+      λ i n. getD-set-other ys j (first ws g + i) v 0 (λ u. n (omega arith)) in
+      rw z (record {
+        long = simp length-set (s .long);
+        below = λ i p b. elim (ℕ-discrete i k) [
+          | yes u ↦ rw u (getD-set-same ys j v 0 r ∙ e)
+          | no n ↦ other i n ∙ elim (decLt i k) [
+            | yes w ↦ s .below i w b
+            | no w ↦ s .onward i (omega arith) b ∙ sym (idle i (omega arith) p b)
+          ]
+        ];
+        onward = λ i p b. other i (λ u. omega arith) ∙ s .onward i (omega arith) b;
+        outside = λ i n. getD-set-other ys j i v 0 (λ u. n k l u) ∙ s .outside i n;
+      })
+
+  -- a graph with nothing caught at any node
+  pub along-quiet : {xs ys : List ℕ} → Along ws c x g 0 xs ys → ((i : ℕ) → i < size ws g → caughtAt ws c x (first ws g + i) ≡ 2) → Along ws c x g (size ws g) xs ys
+  along-quiet s idle = record {
+    long = s .long;
+    below = λ i p b. s .onward i (omega arith) b ∙ sym (idle i b);
+    onward = λ i p b. absurd (omega arith);
+    outside = s .outside;
+  }
+
+  pub along-start : {xs ys : List ℕ} → Along ws c x g 0 xs ys → Along ws c x g 0 ys ys
+  along-start s = record { long = refl; below = s .below; onward = s .onward; outside = λ j n. refl }
+
+  pub along-then : {k m : ℕ} {xs ys zs : List ℕ} → Along ws c x g k xs ys → Along ws c x g m ys zs → Along ws c x g m xs zs
+  along-then s r = record { long = r .long ∙ s .long; below = r .below; onward = r .onward; outside = λ j n. r .outside j n ∙ s .outside j n }
+
+-- the graph's own word, after those of its nodes
+module _ {ws : List ℕ} {c : Counts} (a : Shape ws c) {x : List ℕ} {g : ℕ} (h : g < c .graphs) where
+  pub whole-written : {k u : ℕ} {xs ys zs : List ℕ} (v : ℕ → ℕ) → Along ws c x g k xs ys → ((i : ℕ) → i < size ws g → getD ys (first ws g + i) 0 ≡ v (first ws g + i))
+      → c .nodes + c .graphs ≤ length xs → zs ≡ set ys (c .nodes + g) u → u ≡ v (c .nodes + g) → Written ws c g v xs zs
+  whole-written {k} {u} {xs} {ys} v s n l z e = rw z (record {
+    long = simp length-set (s .long);
+    nodes = λ i b. getD-set-other ys (c .nodes + g) (first ws g + i) u 0 (λ q. omega (arith, node-below a g i h b)) ∙ n i b;
+    whole = getD-set-same ys (c .nodes + g) u 0 (omega (arith, s .long)) ∙ e;
+    outside = λ j p q. getD-set-other ys (c .nodes + g) j u 0 q ∙ s .outside j p;
+  })
+
+  -- and the graphs before it
+  pub told-more : {live xs ys : List ℕ} (v : ℕ → ℕ) → Told ws c x live g xs → Written ws c g v xs ys → ((p : ℕ) → v p ≡ wordAt ws c x live g p) → Told ws c x live (g + 1) ys
+  told-more v t s e = record {
+    long = omega (arith, t .long, s .long);
+    nodes = λ i k p q. elim (ℕ-discrete i g) [
+      | yes z ↦ rw z (s .nodes k (rw z at q) ∙ e _)
+      | no n ↦
+          s .outside (first ws i + k) (λ m b u. apart ws i g k m (λ w. n (sym w)) q b u) (λ u. omega (arith, node-below a i k (omega arith) q))
+          ∙ t .nodes i k (omega arith) q
+    ];
+    graphs = λ i p. elim (ℕ-discrete i g) [
+      | yes z ↦ rw z (s .whole ∙ e _)
+      | no n ↦ s .outside (c .nodes + i) (λ m b u. omega (arith, node-below a g m h b)) (λ u. n (omega arith)) ∙ t .graphs i (omega arith)
+    ];
+  }
+
+pub told-none : {ws : List ℕ} {c : Counts} {x live xs : List ℕ} → c .nodes + c .graphs ≤ length xs → Told ws c x live 0 xs
+told-none l = record { long = l; nodes = λ g k h i. absurd (omega arith); graphs = λ g h. absurd (omega arith) }

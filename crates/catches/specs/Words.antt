@@ -1,0 +1,28 @@
+-- How the words of one graph come into the buffer that tells what is caught. No contract of a call cites it. Assumes nothing.
+use Prim.Native.Nat.{ℕ, _+_, _<_, _≤_}
+use mathlib.Core.Path.{_≡_}
+use mathlib.Core.List.{List}
+use lib.ListN.{length, getD}
+use Rattle.form.specs.declared.Counts.{Counts}
+use Rattle.form.specs.Layout.{first, size}
+use Rattle.catches.specs.Caught.{caughtAt}
+
+-- the words from a up to b become 2, and the others stay
+pub record Blank (a b : ℕ) (xs ys : List ℕ) : Type 0 where
+  pub long : length ys ≡ length xs
+  pub inside : (j : ℕ) → a ≤ j → j < b → getD ys j 0 ≡ 2
+  pub outside : (j : ℕ) → (a ≤ j → j < b → ⊥) → getD ys j 0 ≡ getD xs j 0
+
+-- of the nodes of graph g those below local node k have what is caught there, and the others 2; all other words stay
+pub record Along (ws : List ℕ) (c : Counts) (x : List ℕ) (g k : ℕ) (xs ys : List ℕ) : Type 0 where
+  pub long : length ys ≡ length xs
+  pub below : (i : ℕ) → i < k → i < size ws g → getD ys (first ws g + i) 0 ≡ caughtAt ws c x (first ws g + i)
+  pub onward : (i : ℕ) → k ≤ i → i < size ws g → getD ys (first ws g + i) 0 ≡ 2
+  pub outside : (j : ℕ) → ((i : ℕ) → i < size ws g → j ≡ first ws g + i → ⊥) → getD ys j 0 ≡ getD xs j 0
+
+-- the words of graph g and of its nodes are those of v at their places, and all other words stay
+pub record Written (ws : List ℕ) (c : Counts) (g : ℕ) (v : ℕ → ℕ) (xs ys : List ℕ) : Type 0 where
+  pub long : length ys ≡ length xs
+  pub nodes : (k : ℕ) → k < size ws g → getD ys (first ws g + k) 0 ≡ v (first ws g + k)
+  pub whole : getD ys (c .nodes + g) 0 ≡ v (c .nodes + g)
+  pub outside : (j : ℕ) → ((i : ℕ) → i < size ws g → j ≡ first ws g + i → ⊥) → (j ≡ c .nodes + g → ⊥) → getD ys j 0 ≡ getD xs j 0

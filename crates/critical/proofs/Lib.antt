@@ -1,0 +1,3 @@
+-- What the proofs of the fast change walk cite.
+
+pub mod Laws

@@ -1,0 +1,30 @@
+-- The gradings: document 01, 'Calls'. By faults and values alone. Assumes nothing.
+use Prim.Native.Nat.{ℕ}
+use mathlib.Core.List.{List, [], _∷_}
+use lib.ListN.{length}
+use lib.Dec.{ltb}
+use Rattle.lists.specs.Tables.{over}
+use Rattle.form.specs.declared.Counts.{Counts}
+use Rattle.form.specs.declared.Verdict.{Verdict}
+use Rattle.form.specs.declared.Reply.{Reply}
+use Rattle.form.specs.declared.Rule.the-variants.{BufferTooShort}
+use Rattle.form.specs.Check.{test, firstBroken, andThen, checked}
+use Rattle.form.specs.Calls.{replied, written}
+use Rattle.vectors.specs.Vectors.{listVerdict}
+use Rattle.detect.specs.Grading.{tally, mark, marked}
+
+-- a grading's tests: the list's form, and a buffer with a word for each fault
+unfoldable pub gradeTests : List ℕ → ℕ → Counts → Verdict
+gradeTests xs room c = andThen (listVerdict (c .inputs) xs) (firstBroken (test (ltb room (c .faults)) BufferTooShort 0 ∷ []))
+
+-- THE REPLY OF EITHER GRADING: the marked count
+abbrev pub gradeReply : List ℕ → List ℕ → List ℕ → Reply
+gradeReply ws xs b = replied (checked ws) (gradeTests xs (length b)) (λ c. marked ws c xs)
+
+-- FIRST-MARKING: one word for each fault, C0000000 if no vector of the list catches it, else E0000000 plus the number of the earliest that does
+abbrev pub marksBuffer : List ℕ → List ℕ → List ℕ → List ℕ
+marksBuffer ws xs b = written (checked ws) (gradeTests xs (length b)) (λ c. over (c .faults) (mark ws c xs) b) b
+
+-- TALLYING: one word for each fault, the number of vectors of the list that catch it
+abbrev pub talliesBuffer : List ℕ → List ℕ → List ℕ → List ℕ
+talliesBuffer ws xs b = written (checked ws) (gradeTests xs (length b)) (λ c. over (c .faults) (tally ws c xs) b) b

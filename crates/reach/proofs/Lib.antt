@@ -1,0 +1,3 @@
+-- What the proofs of the reach cite.
+
+pub mod Laws

@@ -1,0 +1,59 @@
+-- Graphs all of whose faults are marked. Assumes nothing.
+use Prim.Native.Nat.{ℕ, suc, _+_, _*_, _<_, _≤_}
+use mathlib.Core.Path.{_≡_, refl, sym, ap, _∙_}
+use mathlib.Core.List.{List}
+use mathlib.Core.Bool.{Bool, true, false, false≢true}
+use native.Mathlib.Omega.{arith}
+use native.Mathlib.Decide.{ℕ-discrete}
+use native.Mathlib.Numerals.{add-one}
+use lib.ListN.{length, getD, set}
+use lib.Seq.{getD-set-same, getD-set-other}
+use Rattle.form.specs.declared.Counts.{Counts}
+use Rattle.form.specs.Layout.{first, size}
+use Rattle.form.proofs.Places.{first-next, first-few}
+use Rattle.reach.specs.Reach.{Placed}
+use Rattle.running.specs.Running.{AllMarked, Dropped, Idle}
+
+module _ {xs : List ℕ} {low : ℕ} where
+  pub marked-none : AllMarked true xs low low
+  marked-none = record { none = λ e f a b. absurd (omega arith) }
+
+  pub marked-not : {high : ℕ} → AllMarked false xs low high
+  marked-not = record { none = λ e. absurd (false≢true e) }
+
+  pub marked-less : {f high : ℕ} → AllMarked true xs low f → high ≤ f → AllMarked true xs low high
+  marked-less s h = record { none = λ z i a b. s .none z i a (omega arith) }
+
+  pub marked-more : {f w : ℕ} → AllMarked true xs low f → w ≡ getD xs f 0 → (w ≡ 0xC0000000 → ⊥) → AllMarked true xs low (f + 1)
+  marked-more {f} s e n = record {
+    none = λ z i a b. elim (ℕ-discrete i f) [
+      | yes o ↦ λ q. n (e ∙ ap (λ (j : ℕ). getD xs j 0) (sym o) ∙ q)
+      | no o ↦ s .none refl i a (omega arith)
+    ];
+  }
+
+module _ {ws firsts : List ℕ} {c : Counts} (y : Placed ws c firsts) {g : ℕ} (h : g < c .graphs) where
+  -- the words of a graph's nodes, as the table gives their places
+  pub graph-ends : {a b : ℕ} → a ≡ getD firsts g 0 → b ≡ getD firsts (g + 1) 0 → (a ≡ first ws g) × (b ≡ first ws g + size ws g) × (b ≤ c .nodes)
+  graph-ends {a} {b} p q =
+      let e : b ≡ first ws (g + 1) = q ∙ y .table (g + 1) (omega arith) in
+      let n : first ws (g + 1) ≡ first ws g + size ws g = rw (add-one g) (first-next ws g) in
+      (p ∙ y .table g (omega arith), e ∙ n, rw e (first-few (y .shape) (g + 1) (omega arith)))
+
+  pub graph-dropped : {a b o : ℕ} {p q : Bool} {xs live live′ : List ℕ} → a ≡ getD firsts g 0 → b ≡ getD firsts (g + 1) 0 → o ≡ 2 * (c .nodes + g)
+      → AllMarked p xs (2 * a) (2 * b) → p ≡ true → AllMarked q xs o (o + 2) → q ≡ true → g < length live → Idle true ws c live xs → live′ ≡ set live g 0
+      → Idle true ws c live′ xs
+  graph-dropped {a} {b} {o} {p} {q} {xs} {live} {live′} u v z m i m′ i′ l s e =
+      let r = graph-ends u v in
+      record {
+        nodes = λ g′ k h′ l′ w. elim (ℕ-discrete g′ g) [
+          | yes j ↦
+              let l″ : k < size ws g = rw j at l′ in
+              rw j (refl, λ d x. m .none i (2 * (first ws g + k) + d) (omega (arith, r .0)) (omega (arith, r .1)))
+          | no j ↦ s .nodes g′ k h′ l′ (sym (ap (λ (t : List ℕ). getD t g′ 0) e ∙ getD-set-other live g g′ 0 0 j) ∙ w)
+        ];
+        graphs = λ g′ h′ w. elim (ℕ-discrete g′ g) [
+          | yes j ↦ rw j (refl, λ d x. m′ .none i′ (2 * (c .nodes + g) + d) (omega arith) (omega arith))
+          | no j ↦ s .graphs g′ h′ (sym (ap (λ (t : List ℕ). getD t g′ 0) e ∙ getD-set-other live g g′ 0 0 j) ∙ w)
+        ];
+      }

@@ -1,0 +1,175 @@
+-- One vector taken in. For both gradings. Assumes nothing.
+use Prim.Native.Nat.{ℕ, zero, suc, _+_, _*_, _-_, _/_, _%_, _<_, _≤_}
+use mathlib.Core.Path.{_≡_, refl, sym, ap, _∙_}
+use mathlib.Core.List.{List, []}
+use mathlib.Core.Bool.{Bool, true, false, not, _&&_, true≢false}
+use native.Mathlib.Omega.{arith}
+use native.Mathlib.Decide.{ℕ-discrete, decLt}
+use lib.ListN.{length, getD}
+use lib.Dec.{eqb}
+use borrow.Author.Tests.{eq-eqb, ne-eqb}
+use Rattle.lists.specs.Counting.{choose}
+use Rattle.lists.specs.Tables.{over}
+use Rattle.lists.proofs.Tables.{over-at, length-over}
+use Rattle.vectors.specs.Vectors.{width}
+use Rattle.vectors.proofs.Laws.{holds}
+use Rattle.form.specs.declared.Counts.{Counts}
+use Rattle.form.specs.Layout.{first, size, reads}
+use Rattle.form.specs.Shape.{Shape}
+use Rattle.value.specs.Values.{decision}
+use Rattle.value.specs.Run.{run, Ready}
+use Rattle.reach.specs.Reach.{Placed}
+use Rattle.detect.specs.Detects.{goodValue, standsIn, detects}
+use Rattle.detect.proofs.Places.{owner}
+use Rattle.rules.specs.Rules.{critical, criticalNode}
+use Rattle.rules.proofs.Changes.{good-bit}
+use Rattle.rules.proofs.Faults.{decides-bit}
+use Rattle.rules.proofs.Told.{graph-told, node-told}
+use Rattle.catches.specs.Caught.{caughtAt}
+use Rattle.catches.specs.Told.{wordAt, Told, Room}
+use Rattle.value.proofs.Values.{node-below}
+use Rattle.running.specs.declared.Running.{Running}
+use Rattle.running.specs.Running.{after, found, Folded, Small, Dropped, Idle, Standing, Taken}
+use Rattle.running.proofs.Fold.{keeps}
+
+-- of a critical place the fault at the opposite of its value v is caught, of any other neither
+one-caught : (b : Bool) (v d : ℕ) → v < 2 → d < 2 → eqb (choose (b && not (eqb 0 v)) 0 (choose (b && not (eqb 1 v)) 1 2)) d ≡ b && not (eqb d v)
+one-caught true zero zero h l = refl
+one-caught true zero (suc zero) h l = refl
+one-caught true zero (suc (suc d)) h l = absurd (omega arith)
+one-caught true (suc zero) zero h l = refl
+one-caught true (suc zero) (suc zero) h l = refl
+one-caught true (suc zero) (suc (suc d)) h l = absurd (omega arith)
+one-caught true (suc (suc v)) d h l = absurd (omega arith)
+one-caught false v d h l = ne-eqb 2 d (λ e. omega arith)
+
+module _ {ws : List ℕ} {c : Counts} (a : Shape ws c) (x : List ℕ) where
+  -- what is told of a place tells of both its faults
+  node-detects : (g k d : ℕ) → g < c .graphs → k < size ws g → d < 2 → eqb (caughtAt ws c x (first ws g + k)) d ≡ detects ws c x (2 * (first ws g + k) + d)
+  unfolding caughtAt
+  node-detects g k d h l b =
+      let v = decides-bit ws g k _ (good-bit a x (reads ws g k) (omega (arith, a .reads-lower g h k l))) in
+      rw (node-told a x g k 0 h l (omega arith), node-told a x g k 1 h l (omega arith), node-told a x g k d h l b)
+      (one-caught (criticalNode ws c x g k) (decision ws (goodValue ws c x) g k) d v b)
+
+  graph-detects : (g d : ℕ) → g < c .graphs → d < 2 → eqb (caughtAt ws c x (c .nodes + g)) d ≡ detects ws c x (2 * (c .nodes + g) + d)
+  unfolding caughtAt
+  graph-detects g d h b =
+      rw (graph-told a x g 0 h (omega arith), graph-told a x g 1 h (omega arith), graph-told a x g d h b)
+      (one-caught (critical ws c x g) (goodValue ws c x g) d (good-bit a x g h) b)
+
+  -- the word of a fault at place p of graph g, by the word of the place; a graph that is left out has dropped both
+  stepped : (drops : Bool) (t : ℕ) (live xs ys : List ℕ) (g p d : ℕ) → d < 2 → eqb (caughtAt ws c x p) d ≡ detects ws c x (2 * p + d)
+      → (getD live g 0 ≡ 0 → Dropped drops xs p)
+      → getD ys (2 * p + d) 0 ≡ after drops t (eqb (wordAt ws c x live g p) d) (getD xs (2 * p + d) 0)
+      → getD ys (2 * p + d) 0 ≡ after drops t (detects ws c x (2 * p + d)) (getD xs (2 * p + d) 0)
+  stepped drops t live xs ys g p d b e i s = elim (ℕ-discrete (getD live g 0) 0) [
+    | yes z ↦
+        let o = i z in
+        let s′ = rw (eq-eqb (getD live g 0) 0 z, ne-eqb 2 d (λ q. omega arith)) at s in
+        s′ ∙ sym (idle (detects ws c x (2 * p + d)) (o .0) (o .1 d b))
+    | no n ↦ rw (← e) (rw (ne-eqb (getD live g 0) 0 n) at s)
+  ]
+    where
+      idle : (q : Bool) → drops ≡ true → (getD xs (2 * p + d) 0 ≡ 0xC0000000 → ⊥) → after drops t q (getD xs (2 * p + d) 0) ≡ getD xs (2 * p + d) 0
+      idle true e n = sym (keeps drops t (getD xs (2 * p + d) 0) e n)
+      idle false e n = refl
+
+  module _ {drops : Bool} {t : ℕ} {live cs xs ys : List ℕ} (w : Told ws c x live (c .graphs) cs) (i : Idle drops ws c live xs)
+      (s : Folded drops t (c .nodes + c .graphs) cs xs ys) where
+    at-place : (p d : ℕ) → p < c .nodes + c .graphs → d < 2 → getD ys (2 * p + d) 0 ≡ after drops t (detects ws c x (2 * p + d)) (getD xs (2 * p + d) 0)
+    at-place p d h b = elim (decLt p (c .nodes)) [
+      | yes l ↦
+          let g = standsIn ws p (c .graphs) in
+          let o = owner ws (c .graphs) p (rw (a .nodes-in) l) in
+          let k = p - first ws g in
+          let m : k < size ws g = omega (arith, o .1, o .2) in
+          let e : first ws g + k ≡ p = omega (arith, o .1) in
+          stepped drops t live xs ys g p d b
+          (rw e at (node-detects g k d (o .0) m b))
+          (rw e at (i .nodes g k (o .0) m))
+          (s .word p d h b ∙ ap (λ (r : ℕ). after drops t (eqb r d) (getD xs (2 * p + d) 0)) (rw e at (w .nodes g k (o .0) m)))
+      | no n ↦
+          let g = p - c .nodes in
+          let l : g < c .graphs = omega arith in
+          let e : c .nodes + g ≡ p = omega arith in
+          stepped drops t live xs ys g p d b
+          (rw e at (graph-detects g d l b))
+          (rw e at (i .graphs g l))
+          (s .word p d h b ∙ ap (λ (r : ℕ). after drops t (eqb r d) (getD xs (2 * p + d) 0)) (rw e at (w .graphs g l)))
+    ]
+
+    -- ONE VECTOR: the word of each fault by whether the vector catches it
+    pub taken : Taken drops ws c x t xs ys
+    taken = record {
+      word = λ f h.
+          let e : 2 * (f / 2) + f % 2 ≡ f = omega arith in
+          rw e at (at-place (f / 2) (f % 2) (omega (arith, a .all-faults)) (omega arith));
+      rest = λ f h. s .rest f (omega (arith, a .all-faults));
+    }
+
+-- what was small and idle stays so
+small-after : (drops b : Bool) (t w : ℕ) → drops ≡ false → w ≤ t → after drops t b w ≤ t + 1
+small-after true b t w e l = absurd (true≢false e)
+small-after false true t w e l = omega arith
+small-after false false t w e l = omega arith
+
+marked-after : (drops b : Bool) (t w : ℕ) → drops ≡ true → (w ≡ 0xC0000000 → ⊥) → after drops t b w ≡ 0xC0000000 → ⊥
+marked-after drops true t w e n z = n (keeps drops t w e n ∙ z)
+marked-after drops false t w e n z = n z
+
+module _ {drops : Bool} {ws x xs ys : List ℕ} {c : Counts} {t : ℕ} (a : Shape ws c) (s : Taken drops ws c x t xs ys) where
+  pub small-next : Small drops t 0 (c .faults) xs → Small drops (t + 1) 0 (c .faults) ys
+  small-next m = record { word = λ e f l h. rw (s .word f h) (small-after drops (detects ws c x f) t (getD xs f 0) e (m .word e f l h)) }
+
+  dropped-next : (p : ℕ) → p < c .nodes + c .graphs → Dropped drops xs p → Dropped drops ys p
+  dropped-next p h o = (
+    o .0,
+    λ d l z.
+        let f = 2 * p + d in
+        marked-after drops (detects ws c x f) t (getD xs f 0) (o .0) (o .1 d l) (sym (s .word f (omega (arith, a .all-faults))) ∙ z),
+  )
+
+  pub idle-next : {live : List ℕ} → Idle drops ws c live xs → Idle drops ws c live ys
+  idle-next i = record {
+    nodes = λ g k h l e. dropped-next (first ws g + k) (omega (arith, node-below a g k h l)) (i .nodes g k h l e);
+    graphs = λ g h e. dropped-next (c .nodes + g) (omega arith) (i .graphs g h e);
+  }
+
+-- the places' faults are all the faults
+pub all-places : {ws : List ℕ} {c : Counts} → Shape ws c → 2 * (c .nodes + c .graphs) ≡ c .faults
+all-places a = omega (arith, a .all-faults)
+
+pub placed : {ws x firsts : List ℕ} {c : Counts} → Ready (run ws c [] x) firsts → Placed ws c firsts
+placed y = record { shape = y .shape; long = y .long; table = y .table }
+
+-- the result after one vector stands as the one before it did
+pub standing-next : {drops : Bool} {ws x xs ys live′ : List ℕ} {c : Counts} {t m : ℕ} → Shape ws c → Taken drops ws c x t xs ys → Small drops t 0 (c .faults) xs
+    → c .faults ≤ length ys → m ≡ found drops ys (2 * (c .nodes + c .graphs)) → Idle drops ws c live′ ys
+    → Standing drops ws c live′ ys (record { vector = t + 1; marked = m })
+standing-next {drops} {ws} {x} {xs} {ys} {live′} {c} {t} {m} a s w l e i = record {
+  long = l;
+  counted = e ∙ ap (found drops ys) (all-places a);
+  small = small-next a s w;
+  idle = i;
+}
+
+-- the card's tables, for any vector of its width
+pub made-placed : {ws firsts : List ℕ} {c : Counts} (ys : List ℕ) → Shape ws c → c .graphs < length ys → firsts ≡ over (c .graphs + 1) (first ws) ys → Placed ws c firsts
+made-placed {ws} {firsts} {c} ys s l e = record {
+  shape = s;
+  long = rw e (rw (length-over (first ws) ys (c .graphs + 1) (omega arith)) l);
+  table = λ g h. rw e (over-at (first ws) ys (c .graphs + 1) g (omega arith));
+}
+
+pub ready-for : {ws firsts x : List ℕ} {c : Counts} → Placed ws c firsts → width (c .inputs) ≤ length x → Ready (run ws c [] x) firsts
+ready-for {ws} {firsts} {x} {c} y w = record { shape = y .shape; long = y .long; table = y .table; wide = λ g h. holds (c .inputs) x g w h }
+
+pub room-kept : {c : Counts} {l p f k l′ p′ f′ k′ : List ℕ} → Room c l p f k → length l′ ≡ length l → length p′ ≡ length p → length f′ ≡ length f → length k′ ≡ length k
+    → Room c l′ p′ f′ k′
+room-kept s a b d e = record {
+  live-long = omega (arith, s .live-long);
+  places-long = omega (arith, s .places-long);
+  flips-long = omega (arith, s .flips-long);
+  caught-long = omega (arith, s .caught-long);
+}

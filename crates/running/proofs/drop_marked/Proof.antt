@@ -1,0 +1,23 @@
+-- `running::drop_marked` meets its contract. Assumes nothing.
+use Rattle.running.proofs.drop_marked.Tie as tie
+use Rattle.running.proofs.drop_marked.Statement.{statement}
+use borrow.Author.Needs.{needs}
+
+drop-graphs-requires : tie.Need-drop-graphs-requires
+drop-graphs-requires c κs =
+    let s = c .before .before .before .before .before .before .pre in
+    let e = c .before .if1 .taken in
+    (s .0, s .1, s .2, rw e at (s .3))
+
+same-length : tie.Need-same-length
+same-length c = search needs
+
+returns : tie.Need-returns
+returns c =
+    rw (c .before .before .before .before .if1 .taken) (c .before .before .drop-graphs .ensures)
+
+returns-2 : tie.Need-returns-2
+returns-2 c = search needs
+
+pub drop-marked-spec : {M : Type 1} → statement M
+drop-marked-spec = tie.close (tie.spec drop-graphs-requires same-length returns returns-2)
