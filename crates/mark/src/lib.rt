@@ -61,7 +61,13 @@ fn list_changes(
 }
 
 // The change list of graph g of an accepted card.
-fn work_out_changes(card: &[u32], c: Counts, vector: &[u32], g: usize, list: &mut [u32]) -> usize
+pub fn work_out_changes(
+    card: &[u32],
+    c: Counts,
+    vector: &[u32],
+    g: usize,
+    list: &mut [u32],
+) -> usize
     requires { ⌜ Shape (now card) c × (width (c .inputs) ≤ length (now vector)) × (g < c .graphs) × (c .graphs ≤ length (now list)) ⌝ }
     ensures { λ r. ⌜ (r ≡ count (changes (now (card .entry)) c (now (vector .entry)) g) (c .graphs))
         × (now (list .exit) ≡ front (chosen (changes (now (card .entry)) c (now (vector .entry)) g) (c .graphs)) (now (list .entry))) ⌝ }
@@ -123,7 +129,7 @@ fn flag_places(caught: &[u32], n: usize, flags: &mut [u32])
 }
 
 // The critical nodes of an accepted card.
-fn work_out_critical(card: &[u32], c: Counts, vector: &[u32], nodes: &mut [u32])
+pub fn work_out_critical(card: &[u32], c: Counts, vector: &[u32], nodes: &mut [u32])
     requires { ⌜ Shape (now card) c × (width (c .inputs) ≤ length (now vector)) × (c .nodes ≤ length (now nodes)) ⌝ }
     ensures { λ _. ⌜ now (nodes .exit) ≡ over (c .nodes) (λ j. choose (criticalAt (now (card .entry)) c (now (vector .entry)) j) 1 0) (now (nodes .entry)) ⌝ }
 {

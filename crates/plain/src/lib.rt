@@ -86,7 +86,7 @@ fn unknown() -> [u32; 5120]
 }
 
 // The values of all graphs, with the faults of a list in.
-fn work_out(card: &[u32], c: Counts, vector: &[u32], faults: &[u32], values: &mut [u32])
+pub fn work_out(card: &[u32], c: Counts, vector: &[u32], faults: &[u32], values: &mut [u32])
     requires { ⌜ Shape (now card) c × (width (c .inputs) ≤ length (now vector)) × (c .graphs ≤ length (now values)) ⌝ }
     ensures { λ _. ⌜ now (values .exit) ≡ over (c .graphs) (value (now (card .entry)) c (faulty (now (faults .entry))) (now (vector .entry))) (now (values .entry)) ⌝ }
 {
@@ -101,7 +101,7 @@ fn work_out(card: &[u32], c: Counts, vector: &[u32], faults: &[u32], values: &mu
 }
 
 // Whether some number of a list is not that of one of so many faults.
-fn too_high(count: usize, faults: &[u32]) -> bool
+pub fn too_high(count: usize, faults: &[u32]) -> bool
     ensures { λ r. ⌜ r ≡ tooHigh count (now (faults .entry)) (length (now (faults .entry))) ⌝ }
 {
     let mut i = 0;

@@ -1,4 +1,4 @@
 -- What the layers above use of vectors, and the turns of the check's loop.
 
 pub mod Laws
-mod Turns
+pub mod Turns

@@ -36,7 +36,7 @@ fn carried(m: usize, j: usize) -> u32
 }
 
 // A word at p, which is word j of its vector.
-fn check_word(m: usize, j: usize, p: usize, w: u32) -> Verdict
+pub fn check_word(m: usize, j: usize, p: usize, w: u32) -> Verdict
     requires { ⌜ (m ≤ 1024) × (16 * j < m) ⌝ }
     ensures { λ r. ⌜ r ≡ wordVerdict m j p w ⌝ }
 {

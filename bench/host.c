@@ -1,0 +1,113 @@
+/* host.c: times card_tally and card_first_marking through the archive.
+ *
+ *   host [--first K] [--repeat N] < card-and-vectors
+ *
+ * Reads what cardgrade reads and prints what it prints, so that the answers can be compared. To stderr:
+ * the vectors graded, and of each call the best processor time in nanoseconds. --first K grades the
+ * first K vectors only.
+ */
+#define _POSIX_C_SOURCE 200809L
+#include "../include/cardhost.h"
+
+#include <stdio.h>
+#include <stdlib.h>
+#include <string.h>
+#include <time.h>
+
+enum { CARD_WORDS = 9216, VECTOR_WORDS = 16384, FAULTS = 10240 };
+
+static uint8_t input[4 * (1 + CARD_WORDS + VECTOR_WORDS)];
+static uint8_t numbers[4 * 5], marks[4 * FAULTS], tallies[4 * FAULTS];
+static const uint8_t *card, *vectors;
+static size_t card_len, vectors_len;
+
+static uint32_t word(const uint8_t *bytes, size_t at)
+{
+    bytes += 4 * at;
+    return (uint32_t)bytes[0] << 24 | (uint32_t)bytes[1] << 16 | (uint32_t)bytes[2] << 8 | bytes[3];
+}
+
+static uint64_t tally(void)
+{
+    return card_tally(card, card_len, vectors, vectors_len, tallies, sizeof tallies);
+}
+
+static uint64_t first_marking(void)
+{
+    return card_first_marking(card, card_len, vectors, vectors_len, marks, sizeof marks);
+}
+
+static double now(void)
+{
+    struct timespec t;
+    clock_gettime(CLOCK_PROCESS_CPUTIME_ID, &t);
+    return (double)t.tv_sec * 1e9 + (double)t.tv_nsec;
+}
+
+/* The best time of some calls; their answer in *answer. */
+static double best(uint64_t (*call)(void), int repeat, uint64_t *answer)
+{
+    double least = 0;
+    for (int i = 0; i < repeat; i++) {
+        double start = now(), took;
+        *answer = call();
+        took = now() - start;
+        if (i == 0 || took < least)
+            least = took;
+    }
+    return least;
+}
+
+/* Splits the input; the number of vectors, at most the first so many. */
+static size_t take_input(size_t first)
+{
+    size_t len = fread(input, 1, sizeof input, stdin), width, count;
+    card = input + 4;
+    card_len = len < 4 ? 0 : 4 * (size_t)word(input, 0);
+    if (len < 4 || card_len > len - 4 || card_check(card, card_len, numbers, sizeof numbers)) {
+        fprintf(stderr, "host: no right card\n");
+        exit(1);
+    }
+    vectors = card + card_len;
+    width = ((size_t)word(numbers, 0) + 15) / 16;
+    count = (len - 4 - card_len) / 4 / width;
+    if (first < count)
+        count = first;
+    vectors_len = 4 * width * count;
+    return count;
+}
+
+static void print_grade(uint64_t marked)
+{
+    uint32_t faults = word(numbers, 4);
+    printf("card %u %u %u %u\n", (unsigned)word(numbers, 0), (unsigned)word(numbers, 1), (unsigned)word(numbers, 2), (unsigned)faults);
+    for (uint32_t f = 0; f < faults; f++)
+        if (word(marks, f) == 0xC0000000)
+            printf("%u - %u\n", (unsigned)f, (unsigned)word(tallies, f));
+        else
+            printf("%u %u %u\n", (unsigned)f, (unsigned)(word(marks, f) - 0xE0000000), (unsigned)word(tallies, f));
+    printf("grade %u %u\n", (unsigned)marked, (unsigned)faults);
+}
+
+int main(int argc, char **argv)
+{
+    size_t first = VECTOR_WORDS, count;
+    int repeat = 1;
+    uint64_t by_tally, by_first;
+    double tally_ns, first_ns;
+    for (int i = 1; i + 1 < argc; i += 2)
+        if (!strcmp(argv[i], "--first"))
+            first = strtoul(argv[i + 1], NULL, 10);
+        else if (!strcmp(argv[i], "--repeat"))
+            repeat = atoi(argv[i + 1]);
+    count = take_input(first);
+    tally_ns = best(tally, repeat, &by_tally);
+    first_ns = best(first_marking, repeat, &by_first);
+    if (by_tally != by_first || by_tally >> 32) {
+        fprintf(stderr, "host: the calls answer %llu and %llu\n", (unsigned long long)by_tally, (unsigned long long)by_first);
+        return 1;
+    }
+    print_grade(by_tally);
+    fprintf(stderr, "vectors %zu tally_ns %.0f first_ns %.0f\n", count, tally_ns, first_ns);
+    return 0;
+}

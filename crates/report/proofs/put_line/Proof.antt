@@ -1,0 +1,40 @@
+-- `report::put_line` meets its contract. Assumes nothing.
+use Rattle.report.proofs.put_line.Tie as tie
+use Rattle.report.proofs.Digits.{few-20}
+use Rattle.report.proofs.Puts.{puts-then}
+use Rattle.report.proofs.put_line.Statement.{statement}
+use Rattle.report.specs.Text.{line}
+use borrow.Author.Needs.{needs}
+use native.Mathlib.Omega.{arith}
+
+put-field-requires : tie.Need-put-field-requires
+put-field-requires c κs =
+    let p = c .before .before .before .put .ensures in
+    omega (arith, few-20 (c .before .before .before .before .before .before .before .args .x) (omega arith), p .ends, p .size)
+
+put-field-requires-2 : tie.Need-put-field-requires-2
+put-field-requires-2 c κs =
+    let p = c .before .before .before .before .before .before .before .put .ensures in
+    let q = c .before .before .before .put-field .ensures in
+    let s = c .before .before .before .before .before .before .before .before .before .before .before .args in
+    omega (arith, few-20 (s .x) (omega arith), few-20 (s .y) (omega arith), p .ends, p .size, q .ends, q .size)
+
+put-requires-2 : tie.Need-put-requires-2
+put-requires-2 c κs =
+    let p = c .before .before .before .before .before .before .before .before .before .before .before .before .put .ensures in
+    let q = c .before .before .before .before .before .before .before .before .put-field .ensures in
+    let r = c .before .before .before .before .put-field2 .ensures in
+    let s = c .before .before .before .before .before .before .before .before .before .before .before .before .before .before .before .before .args in
+    omega (arith, few-20 (s .x) (omega arith), few-20 (s .y) (omega arith), p .ends, p .size, q .ends, q .size, r .ends, r .size)
+
+returns : tie.Need-returns
+unfolding line
+returns c =
+    let p = c .before .before .before .before .before .before .before .before .before .before .before .before .before .before .before .put .ensures in
+    let q = c .before .before .before .before .before .before .before .before .before .before .before .put-field .ensures in
+    puts-then (puts-then (puts-then p q) (c .before .before .before .before .before .before .before .put-field2 .ensures)) (c .before .before .put2 .ensures)
+
+pub put-line-spec : {M : Type 1} → statement M
+put-line-spec =
+    tie.close
+    (tie.spec (λ c κs. search needs) put-field-requires put-field-requires-2 (λ c. search needs) put-requires-2 (λ c. search needs) returns)

@@ -1,0 +1,111 @@
+/* cardhost.h: the grading engine for logic cards, called from C.
+ *
+ * Link with libcardhost.a; nothing else is needed. The seven functions keep no state between calls
+ * and allocate nothing.
+ *
+ * WORDS. A card, its vectors and every answer are 32-bit words, each as four bytes, highest byte
+ * first, at any address. The parameters that end in _len count bytes.
+ *
+ * A CARD is a set of decision graphs; docs/FORMAT.md has its words. With N nodes and G graphs it has
+ * F = 2N + 2G faults. Fault 2j makes node j always take its 0-exit, 2j + 1 its 1-exit; fault 2N + 2g
+ * holds graph g at 0, 2N + 2g + 1 at 1. A vector catches a fault exactly when, with the fault in, an
+ * observable graph differs from its value with no fault.
+ *
+ * A VECTOR for m inputs is w = m / 16 words, rounded up: A0000000 plus, in bit i of word j, the value
+ * of input 16 * j + i. A list has 0 to 65,535 vectors, one after the other, numbered from 0.
+ *
+ * THE ANSWER of every call is one 64-bit number. Below 4294967296 the call is done, and the number is
+ *   - of card_first_marking and card_tally, the marked count: how many of the F faults are caught;
+ *   - of card_change_list, the length of the list;
+ *   - of the other calls, 0.
+ * Else the call is refused, and the number is refusal * 4294967296 + position (CARD_REFUSAL and
+ * CARD_POSITION take it apart). The first broken rule is told, in this order: 1; then word by word 2,
+ * 4, 5 and then 3, 6 or 7, with 8 after a graph's last word; 9; 10; 11; 12.
+ *
+ *   no.  when                                                          position
+ *    1   card over 9,216 whole words                                   0
+ *    2   any word where the header of graph 1,025 is due               that word
+ *    3   a header's node count is 0, or takes the nodes over 4,096     the header
+ *    4   kind not due there, an input after an output, or the words    the word, or
+ *        end inside a graph; also a card's leftover bytes              the word count
+ *    5   a bit that must be zero is set                                the word
+ *    6   the graph read is not below its own                           the kind 3 word
+ *    7   an exit to a node not later, or not in the graph              the kind 4 word
+ *    8   a local node that no exit names                               the header
+ *    9   no observable graph                                           the word count
+ *   10   vector words: number, kind or bits wrong                      0, or the vector word
+ *   11   graph or fault number too high                                0
+ *   12   buffer too short                                              0
+ *
+ * Positions count words from 0: in the card, or for refusal 10 in the vector words.
+ *
+ * LEFTOVERS, where a length is no multiple of 4. One to three bytes at a card's end are refusal 4 at
+ * the number of its whole words, after the last graph's 8 and just before 9. In vectors they are a
+ * wrong number of words, refusal 10 at 0. In a buffer they are unused.
+ *
+ * BUFFERS. A refused call alters no byte. A call that is done writes just the words it names, from
+ * the buffer's front; every byte beyond them keeps its content. The card and the vectors are only
+ * read.
+ *
+ * TRUSTED, and not looked at: each pointer is good for its length (and not NULL, though nothing is
+ * read or written at length 0), and the lent buffer overlaps neither the card nor the vectors. A host
+ * that breaks this gets no promise.
+ *
+ * STACK. A call needs at most CARD_STACK bytes of stack (tests/stack.c measures it on the largest cards).
+ */
+#ifndef CARDHOST_H
+#define CARDHOST_H
+
+#include <stddef.h>
+#include <stdint.h>
+
+#define CARD_STACK 1048576
+
+#define CARD_REFUSAL(answer) ((uint32_t)((answer) >> 32))
+#define CARD_POSITION(answer) ((uint32_t)((answer) & 0xFFFFFFFFu))
+
+#ifdef __cplusplus
+extern "C" {
+#endif
+
+/* Checks a card. Writes five words: the numbers of inputs, graphs, nodes, observable graphs and
+ * faults. Refusals 1 to 9; 12 with under five whole words of buffer. */
+uint64_t card_check(const uint8_t *card, size_t card_len, uint8_t *numbers, size_t numbers_len);
+
+/* Writes G words, 0 or 1: each graph's value under the vector, with no fault in. The vector is exactly
+ * w words. Refusals 1 to 10; 12 with under G whole words of buffer. */
+uint64_t card_good_values(const uint8_t *card, size_t card_len, const uint8_t *vector, size_t vector_len,
+                          uint8_t *values, size_t values_len);
+
+/* The same with one fault in. A held graph's own word is the value that it is held at. Also refusal
+ * 11, where the fault's number is F or more. */
+uint64_t card_fault_values(const uint8_t *card, size_t card_len, const uint8_t *vector, size_t vector_len,
+                           uint32_t fault, uint8_t *values, size_t values_len);
+
+/* Which graphs have another value when this graph alone is held at the opposite of its value: writes
+ * their numbers, rising, the graph's own first, and answers how many. Refusal 11 where the graph's
+ * number is G or more; 12 with under G whole words of buffer, even where the list would fit. */
+uint64_t card_change_list(const uint8_t *card, size_t card_len, const uint8_t *vector, size_t vector_len,
+                          uint32_t graph, uint8_t *list, size_t list_len);
+
+/* Writes N words: 1 for a critical node, one whose other exit, forced, alters an observable graph,
+ * else 0. Refusal 12 with under N whole words of buffer. */
+uint64_t card_critical_nodes(const uint8_t *card, size_t card_len, const uint8_t *vector, size_t vector_len,
+                             uint8_t *nodes, size_t nodes_len);
+
+/* Grades a list. Writes F words: for each fault C0000000 where no vector catches it, else E0000000
+ * plus the number of the first that does. Answers the marked count. Refusal 12 with under F whole
+ * words of buffer. */
+uint64_t card_first_marking(const uint8_t *card, size_t card_len, const uint8_t *vectors, size_t vectors_len,
+                            uint8_t *marks, size_t marks_len);
+
+/* Grades a list. Writes F words: for each fault the number of vectors that catch it, a repeated
+ * vector counted each time. Answers the marked count. Refusal 12 with under F whole words of buffer. */
+uint64_t card_tally(const uint8_t *card, size_t card_len, const uint8_t *vectors, size_t vectors_len,
+                    uint8_t *tallies, size_t tallies_len);
+
+#ifdef __cplusplus
+}
+#endif
+
+#endif

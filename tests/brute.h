@@ -1,0 +1,31 @@
+/* brute.h: the seven calls and the program's text again, by brute force.
+ *
+ * Written from document 01 alone. It shares nothing with the engine and knows no marking rules: what a
+ * fault does is found by putting it in and working out the whole card again.
+ */
+#ifndef BRUTE_H
+#define BRUTE_H
+
+#include <stddef.h>
+#include <stdint.h>
+
+/* As the functions of cardhost.h. */
+uint64_t brute_check(const uint8_t *card, size_t card_len, uint8_t *numbers, size_t numbers_len);
+uint64_t brute_good_values(const uint8_t *card, size_t card_len, const uint8_t *vector, size_t vector_len,
+                           uint8_t *values, size_t values_len);
+uint64_t brute_fault_values(const uint8_t *card, size_t card_len, const uint8_t *vector, size_t vector_len,
+                            uint32_t fault, uint8_t *values, size_t values_len);
+uint64_t brute_change_list(const uint8_t *card, size_t card_len, const uint8_t *vector, size_t vector_len,
+                           uint32_t graph, uint8_t *list, size_t list_len);
+uint64_t brute_critical_nodes(const uint8_t *card, size_t card_len, const uint8_t *vector, size_t vector_len,
+                              uint8_t *nodes, size_t nodes_len);
+uint64_t brute_first_marking(const uint8_t *card, size_t card_len, const uint8_t *vectors, size_t vectors_len,
+                             uint8_t *marks, size_t marks_len);
+uint64_t brute_tally(const uint8_t *card, size_t card_len, const uint8_t *vectors, size_t vectors_len,
+                     uint8_t *tallies, size_t tallies_len);
+
+/* What cardgrade prints for these bytes; the text's length. The room is at least BRUTE_TEXT. */
+enum { BRUTE_TEXT = 400000 };
+size_t brute_text(const uint8_t *input, size_t len, char *text);
+
+#endif

@@ -1,0 +1,34 @@
+/* calls.c: see calls.h. */
+#include "calls.h"
+
+#include "../include/cardhost.h"
+#include "brute.h"
+
+const char *const call_names[CALLS] = { "card_check",          "card_good_values",   "card_fault_values", "card_change_list",
+                                        "card_critical_nodes", "card_first_marking", "card_tally" };
+
+uint64_t ask_engine(const struct asked *a, uint8_t *buffer, size_t len)
+{
+    switch (a->call) {
+    case CHECK: return card_check(a->card, a->card_len, buffer, len);
+    case GOOD: return card_good_values(a->card, a->card_len, a->vectors, a->vectors_len, buffer, len);
+    case FAULT: return card_fault_values(a->card, a->card_len, a->vectors, a->vectors_len, a->number, buffer, len);
+    case CHANGE: return card_change_list(a->card, a->card_len, a->vectors, a->vectors_len, a->number, buffer, len);
+    case CRITICAL: return card_critical_nodes(a->card, a->card_len, a->vectors, a->vectors_len, buffer, len);
+    case FIRST: return card_first_marking(a->card, a->card_len, a->vectors, a->vectors_len, buffer, len);
+    default: return card_tally(a->card, a->card_len, a->vectors, a->vectors_len, buffer, len);
+    }
+}
+
+uint64_t ask_brute(const struct asked *a, uint8_t *buffer, size_t len)
+{
+    switch (a->call) {
+    case CHECK: return brute_check(a->card, a->card_len, buffer, len);
+    case GOOD: return brute_good_values(a->card, a->card_len, a->vectors, a->vectors_len, buffer, len);
+    case FAULT: return brute_fault_values(a->card, a->card_len, a->vectors, a->vectors_len, a->number, buffer, len);
+    case CHANGE: return brute_change_list(a->card, a->card_len, a->vectors, a->vectors_len, a->number, buffer, len);
+    case CRITICAL: return brute_critical_nodes(a->card, a->card_len, a->vectors, a->vectors_len, buffer, len);
+    case FIRST: return brute_first_marking(a->card, a->card_len, a->vectors, a->vectors_len, buffer, len);
+    default: return brute_tally(a->card, a->card_len, a->vectors, a->vectors_len, buffer, len);
+    }
+}

@@ -1,0 +1,25 @@
+/* calls.h: the seven calls under one name, of the engine and of brute force. */
+#ifndef CALLS_H
+#define CALLS_H
+
+#include <stddef.h>
+#include <stdint.h>
+
+enum call { CHECK, GOOD, FAULT, CHANGE, CRITICAL, FIRST, TALLY, CALLS };
+
+extern const char *const call_names[CALLS];
+
+/* What a call is given. The number is a fault's or a graph's, where the call takes one. */
+struct asked {
+    enum call call;
+    const uint8_t *card;
+    size_t card_len;
+    const uint8_t *vectors;
+    size_t vectors_len;
+    uint32_t number;
+};
+
+uint64_t ask_engine(const struct asked *a, uint8_t *buffer, size_t len);
+uint64_t ask_brute(const struct asked *a, uint8_t *buffer, size_t len);
+
+#endif

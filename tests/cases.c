@@ -1,0 +1,735 @@
+/* cases.c: fixed cases through the host's calls, with the expected answers written out.
+ *
+ * They are document 01's own figures where it has some; the others follow from its rules. A card, a
+ * list of vectors and the words of a buffer are written as text:
+ *
+ *   60000001    eight hexadecimal digits, a word       A0000001*65535   a word so many times
+ *   12          fewer digits, a decimal number         +2               two leftover bytes
+ *   chain3      the pairs of three nodes that read graph 0, with the exits 0 and the next node, the
+ *               last with 0 and 1                      part3            the same, the last going on too
+ *   obs3        an observable graph of such a chain    link3            the same, reading the graph below
+ *
+ * Of a call that is done, the text has the answer, a colon and the words written; the test sees to it
+ * that the rest of the buffer is as it was. Of a refused one all of the buffer is.
+ */
+#include "astray.h"
+#include "calls.h"
+
+#include <ctype.h>
+#include <stdio.h>
+#include <stdlib.h>
+#include <string.h>
+
+#define CARD_S "00000000 20000001 60000000 80000001 40000002 60000001 80000003 60000000 80000001"
+#define CARD_F "00000000 00000000 00000000 40000003 60000000 8000C001 60000001 80010000 60000002 80000001"
+#define CUT_S "00000000 20000001 60000000 80000001"
+#define CARD_16 "0*16 40000001 6000000F 80000001"
+#define CARD_17 "0*17 40000001 6000000F 80000001"
+#define ALL_INPUTS "0*1023 40000001 600003FE 80000001"
+#define W(words) (4 * (words))
+
+/* ---- the check: name, card, answer (the five numbers, or the refusal) ---- */
+
+static const struct check_case {
+    const char *name, *card, *want;
+} check_cases[] = {
+    { "refusal 1, 9,217 zeros", "0*9217", "refused 1 0" },
+    { "refusal 2, 1,025 zeros", "0*1025", "refused 2 1024" },
+    { "refusal 3, no node", "00000000 20000000", "refused 3 1" },
+    { "refusal 4, kind 3 for a header", "00000000 60000000", "refused 4 1" },
+    { "refusal 5, bit 0 of an input", "00000001", "refused 5 0" },
+    { "refusal 6, own graph read", "00000000 40000001 60000001 80000001", "refused 6 2" },
+    { "refusal 7, exit 2", "00000000 40000001 60000000 80000002", "refused 7 3" },
+    { "refusal 8, local 1 not named", "00000000 40000002 60000000 80000001 60000000 80000001", "refused 8 1" },
+    { "refusal 9, an input alone", "00000000", "refused 9 1" },
+    { "S", CARD_S, "1 3 3 1 12" },
+    { "Akers's f", CARD_F, "3 4 3 1 14" },
+    { "exit 3 at local 0 of two", "00000000 40000002 60000000 80000003 60000000 80000001", "1 2 2 1 8" },
+    { "exit 3 at local 1 of two", "00000000 40000002 60000000 80000003 60000000 80000003", "refused 7 5" },
+    { "the empty card", "", "refused 9 0" },
+    { "two exits 0", "00000000 40000001 60000000 80000000", "1 2 1 1 6" },
+    { "two exits 1", "00000000 40000001 60000000 80004001", "1 2 1 1 6" },
+    { "two exits 3", "00000000 40000002 60000000 8000C003 60000000 80000001", "1 2 2 1 8" },
+    { "an input that nobody reads", "00000000 00000000 40000001 60000000 80000001", "2 3 1 1 8" },
+    { "an output that nobody reads", "00000000 20000001 60000000 80000001 40000001 60000000 80000001", "1 3 2 1 10" },
+    { "an observable graph read", "00000000 40000001 60000000 80000001 40000001 60000001 80000001", "1 3 2 2 10" },
+    { "a hidden graph last", "00000000 40000001 60000000 80000001 20000001 60000001 80000001", "1 3 2 1 10" },
+    { "named by a 0-exit only", "00000000 40000002 60000000 8000C001 60000000 80000001", "1 2 2 1 8" },
+    { "named by 1-exits only",
+      "00000000 40000003 60000000 80000003 60000000 80000004 60000000 80000001", "1 2 3 1 10" },
+    { "named by two nodes", "00000000 40000003 60000000 8000C004 60000000 80010001 60000000 80000001", "1 2 3 1 10" },
+    { "two named by one node",
+      "00000000 40000003 60000000 80010003 60000000 80000001 60000000 80000001", "1 2 3 1 10" },
+    { "bit 15 of an input", "00000000 00008000", "refused 5 1" },
+    { "bit 28 of an input", "00000000 10000000", "refused 5 1" },
+    { "bit 16 of a kind 1 header", "00000000 20010001", "refused 5 1" },
+    { "bit 28 of a kind 1 header", "00000000 30000001", "refused 5 1" },
+    { "bit 16 of a kind 2 header", "00000000 40010001", "refused 5 1" },
+    { "bit 28 of a kind 2 header", "00000000 50000001", "refused 5 1" },
+    { "no node, kind 2, the last word", "00000000 40000000", "refused 3 1" },
+    { "kind 4 for a header", "00000000 80000001", "refused 4 1" },
+    { "kind 5 for a header", "00000000 A0000000", "refused 4 1" },
+    { "kind 6 for a header", "00000000 C0000000", "refused 4 1" },
+    { "kind 7 for a header", "00000000 E0000000", "refused 4 1" },
+    { "kind 3 as the first word", "60000000", "refused 4 0" },
+    { "kind 3 after a graph", "00000000 40000001 60000000 80000001 60000000", "refused 4 4" },
+    { "an input after an output", "00000000 40000001 60000000 80000001 00000000", "refused 4 4" },
+    { "a read of a higher graph", "00000000 40000001 60000002 80000001", "refused 6 2" },
+    { "a read of graph 65,535", "00000000 40000001 6000FFFF 80000001", "refused 6 2" },
+    { "bit 16 of a read", "00000000 40000001 60010000 80000001", "refused 5 2" },
+    { "bit 28 of a read", "00000000 40000001 70000000 80000001", "refused 5 2" },
+    { "kind 0 for a read", "00000000 40000001 00000000 80000001", "refused 4 2" },
+    { "kind 4 for a read", "00000000 40000001 80000001 80000001", "refused 4 2" },
+    { "kind 7 for a read", "00000000 40000001 E0000000 80000001", "refused 4 2" },
+    { "no input to read", "40000001 60000000 80000001", "refused 6 1" },
+    { "own graph read at local 1", "00000000 40000002 60000000 80000003 60000001 80000001", "refused 6 4" },
+    { "bit 28 of exits", "00000000 40000001 60000000 90000001", "refused 5 3" },
+    { "bit 27 of exits, a 0-exit", "00000000 40000001 60000000 88000001", "refused 7 3" },
+    { "exit 2 as the 0-exit", "00000000 40000001 60000000 80008001", "refused 7 3" },
+    { "kind 0 for exits", "00000000 40000001 60000000 00000000", "refused 4 3" },
+    { "kind 3 for exits", "00000000 40000001 60000000 60000000", "refused 4 3" },
+    { "kind 5 for exits", "00000000 40000001 60000000 A0000000", "refused 4 3" },
+    { "exit 2 at local 1", "00000000 40000002 60000000 80000003 60000000 80000002", "refused 7 5" },
+    { "exit 3 at local 2", "00000000 40000003 60000000 80000003 60000000 80000004 60000000 80000003", "refused 7 7" },
+    { "exit 3 in a graph of one", "00000000 40000001 60000000 80000003", "refused 7 3" },
+    { "1-exit 16,383", "00000000 40000001 60000000 80003FFF", "refused 7 3" },
+    { "0-exit 16,383", "00000000 40000001 60000000 8FFFC001", "refused 7 3" },
+    { "1-exit 4 in a graph of two", "00000000 40000002 60000000 8000C004 60000000 80000001", "refused 7 3" },
+    { "0-exit 4 in a graph of two", "00000000 40000002 60000000 80010003 60000000 80000001", "refused 7 3" },
+    { "exit 3, the next graph's node",
+      "00000000 20000001 60000000 80000003 40000001 60000000 80000001", "refused 7 3" },
+    { "local 1 of three not named",
+      "00000000 40000003 60000000 80000004 60000000 80000001 60000000 80000001", "refused 8 1" },
+    { "local 2 of three not named",
+      "00000000 40000003 60000000 80000003 60000000 80000001 60000000 80000001", "refused 8 1" },
+    { "8 in the second output",
+      "00000000 20000001 60000000 80000001 40000002 60000000 80000001 60000000 80000001", "refused 8 4" },
+    { "named in the graph before only",
+      "00000000 20000002 60000000 80000003 60000000 80000001 40000002 60000000 80000001 60000000 80000001", "refused 8 6" },
+    { "a hidden output only", "00000000 20000001 60000000 80000001", "refused 9 4" },
+    { "4 before 5 at word 0", "FFFFFFFF", "refused 4 0" },
+    { "4 before 5 at a header", "00000000 60010000", "refused 4 1" },
+    { "4 before 5 at a late input", "00000000 40000001 60000000 80000001 00000001", "refused 4 4" },
+    { "4 before 5 at a read", "00000000 40000001 90000001 80000001", "refused 4 2" },
+    { "4 before 5 at a read, kind 0", "00000000 40000001 00000001 80000001", "refused 4 2" },
+    { "4 before 5 at exits", "00000000 40000001 60000000 60010000", "refused 4 3" },
+    { "4 before 3 at a header", "00000000 80000000", "refused 4 1" },
+    { "4 before 6 at a read", "00000000 40000001 40000001 80000001", "refused 4 2" },
+    { "4 before 7 at exits", "00000000 40000001 60000000 60000002", "refused 4 3" },
+    { "5 before 3, no node", "00000000 40010000", "refused 5 1" },
+    { "5 before 3, 4,097 nodes", "00000000 30001001", "refused 5 1" },
+    { "5 before 6", "00000000 40000001 60010001 80000001", "refused 5 2" },
+    { "5 before 7", "00000000 40000001 60000000 90000002", "refused 5 3" },
+    { "5, then 3", "00000001 20000000", "refused 5 0" },
+    { "3, then 4", "00000000 40000000 60000000 80000001", "refused 3 1" },
+    { "6, then 5", "00000000 40000001 60000001 90000001", "refused 6 2" },
+    { "7, then 4", "00000000 40000002 60000000 80000002 60000000 60000000", "refused 7 3" },
+    { "6, then the end", "00000000 40000001 60000001", "refused 6 2" },
+    { "7, then the end", "00000000 40000002 60000000 80000004", "refused 7 3" },
+    { "7 at the last word before 8", "00000000 40000002 60000000 80000001 60000000 80000003", "refused 7 5" },
+    { "8 before 4 at the next word", "00000000 40000002 60000000 80000001 60000000 80000001 60000000", "refused 8 1" },
+    { "8 before 4 at a late input", "00000000 40000002 60000000 80000001 60000000 80000001 00000000", "refused 8 1" },
+    { "8 before 5 at the next word", "00000000 40000002 60000000 80000001 60000000 80000001 40010001", "refused 8 1" },
+    { "8 before 3 at the next word", "00000000 40000002 60000000 80000001 60000000 80000001 40000000", "refused 8 1" },
+    { "8 before 4 at the end", "00000000 40000002 60000000 80000001 60000000 80000001 40000001", "refused 8 1" },
+    { "8 before 9", "00000000 20000002 60000000 80000001 60000000 80000001", "refused 8 1" },
+    { "cut short by a word, never 8", "00000000 40000002 60000000 80000001 60000000", "refused 4 5" },
+    { "cut short by a pair, never 8", "00000000 40000002 60000000 80000001", "refused 4 4" },
+    { "S cut to 0 words", "", "refused 9 0" },
+    { "S cut to 1 word", "00000000", "refused 9 1" },
+    { "S cut to 2 words", "00000000 20000001", "refused 4 2" },
+    { "S cut to 3 words", "00000000 20000001 60000000", "refused 4 3" },
+    { "S cut to 4 words", "00000000 20000001 60000000 80000001", "refused 9 4" },
+    { "S cut to 5 words", "00000000 20000001 60000000 80000001 40000002", "refused 4 5" },
+    { "S cut to 6 words", "00000000 20000001 60000000 80000001 40000002 60000001", "refused 4 6" },
+    { "S cut to 7 words", "00000000 20000001 60000000 80000001 40000002 60000001 80000003", "refused 4 7" },
+    { "S cut to 8 words", "00000000 20000001 60000000 80000001 40000002 60000001 80000003 60000000", "refused 4 8" },
+    { "S with its 9 words", CARD_S, "1 3 3 1 12" },
+    { "S and 1 byte", CARD_S " +1", "refused 4 9" },
+    { "S and 2 bytes", CARD_S " +2", "refused 4 9" },
+    { "S and 3 bytes", CARD_S " +3", "refused 4 9" },
+    { "S cut to 8 words and 2 bytes",
+      "00000000 20000001 60000000 80000001 40000002 60000001 80000003 60000000 +2", "refused 4 8" },
+    { "S cut to 4 words, no byte", "00000000 20000001 60000000 80000001", "refused 9 4" },
+    { "S cut to 4 words and 1 byte", "00000000 20000001 60000000 80000001 +1", "refused 4 4" },
+    { "an input and 1 byte", "00000000 +1", "refused 4 1" },
+    { "the empty card and 3 bytes", "+3", "refused 4 0" },
+    { "5 before 3 bytes", "00000001 +3", "refused 5 0" },
+    { "8 before 1 byte", "00000000 40000002 60000000 80000001 60000000 80000001 +1", "refused 8 1" },
+    { "1,024 inputs", "0*1024", "refused 9 1024" },
+    { "9,216 zeros", "0*9216", "refused 2 1024" },
+    { "1,024 inputs and 1 byte", "0*1024 +1", "refused 4 1024" },
+    { "2 before 1 byte", "0*1025 +1", "refused 2 1024" },
+    { "5, then 2", "1 0*1024", "refused 5 0" },
+    { "1 before 5", "1 0*9216", "refused 1 0" },
+    { "9,216 words", "0*512 obs8*512", "512 1024 4096 512 10240" },
+    { "9,217 words", "0*512 obs8*512 0", "refused 1 0" },
+    { "9,216 words and 3 bytes", "0*512 obs8*512 +3", "refused 4 9216" },
+    { "9,217 words and 1 byte", "0*512 obs8*512 0 +1", "refused 1 0" },
+    { "1,024 graphs, a read of 1,022", "0*1023 40000001 600003FE 80000001", "1023 1024 1 1 2050" },
+    { "1,024 graphs and 1 byte", "0*1023 40000001 600003FE 80000001 +1", "refused 4 1026" },
+    { "1,024 graphs, a read of 1,023", "0*1023 40000001 600003FF 80000001", "refused 6 1024" },
+    { "graph 1,025 of kind 1", "0*1023 obs1 20000001", "refused 2 1026" },
+    { "graph 1,025 of kind 2", "0*1023 obs1 40000001", "refused 2 1026" },
+    { "2 before 4 at a late input", "0*1023 obs1 0", "refused 2 1026" },
+    { "2 before 4", "0*1023 obs1 60000000", "refused 2 1026" },
+    { "2 before 5", "0*1023 obs1 40010001", "refused 2 1026" },
+    { "2 before 3", "0*1023 obs1 40000000", "refused 2 1026" },
+    { "2 before 4, all bits set", "0*1023 obs1 FFFFFFFF", "refused 2 1026" },
+    { "8 before 2", "0*1023 40000002 60000000 80000001 60000000 80000001 0", "refused 8 1023" },
+    { "1,023 outputs", "0 obs1*1023", "1 1024 1023 1023 4094" },
+    { "4,096 nodes", "0 obs4096", "1 2 4096 1 8196" },
+    { "4,097 nodes, with their words", "0 40001001 chain4096 0*2", "refused 3 1" },
+    { "4,097 nodes, the last word", "0 40001001", "refused 3 1" },
+    { "65,535 nodes", "0 4000FFFF", "refused 3 1" },
+    { "1 node and 4,095", "0 obs1 40000FFF", "refused 4 5" },
+    { "1 node and 4,096", "0 obs1 40001000", "refused 3 4" },
+    { "exit 4,097 in 4,096 nodes", "0 40001000 60000000 80001001", "refused 4 4" },
+    { "exit 4,098 in 4,096 nodes", "0 40001000 60000000 80001002", "refused 7 3" },
+    { "100 nodes, cut by a word", "0 40000064 part99 60000000", "refused 4 201" },
+    { "100 nodes, the last not named", "0 40000064 part98 60000000 80000001 60000000 80000001", "refused 8 1" },
+};
+
+/* ---- values of all graphs: with no fault, then with fault 0, 1 and so on ---- */
+
+static const struct value_case {
+    const char *card, *vector, *want;
+} value_cases[] = {
+    { CARD_S, "A0000000",
+      "000 000 010 000 000 000 000 000 111 000 010 000 001" },
+    { CARD_S, "A0000001",
+      "111 100 111 110 111 110 111 000 111 100 111 110 111" },
+    { CARD_F, "A0000000",
+      "0000 0000 0001 0000 0000 0000 0001 0000 1001 0000 0100 0000 0011 0000 0001" },
+    { CARD_F, "A0000001",
+      "1001 1000 1001 1001 1001 1001 1001 0000 1001 1001 1101 1001 1011 1000 1001" },
+    { CARD_F, "A0000002",
+      "0100 0100 0101 0100 0100 0100 0100 0100 1101 0000 0100 0100 0110 0100 0101" },
+    { CARD_F, "A0000003",
+      "1101 1100 1101 1101 1101 1101 1101 0100 1101 1001 1101 1101 1111 1100 1101" },
+    { CARD_F, "A0000004",
+      "0011 0011 0011 0011 0010 0010 0011 0011 1011 0011 0110 0000 0011 0010 0011" },
+    { CARD_F, "A0000005",
+      "1011 1011 1011 1011 1011 1011 1011 0011 1011 1011 1111 1001 1011 1010 1011" },
+    { CARD_F, "A0000006",
+      "0110 0110 0111 0111 0110 0110 0110 0110 1111 0011 0110 0100 0110 0110 0111" },
+    { CARD_F, "A0000007",
+      "1111 1110 1111 1111 1111 1111 1111 0110 1111 1011 1111 1101 1111 1110 1111" },
+};
+
+/* ---- single calls: call, card, vectors (one list, or several with | between), fault or graph number,
+ * the buffer's bytes, answer ---- */
+
+static const struct call_case {
+    enum call call;
+    const char *card, *vectors;
+    uint32_t number;
+    size_t room;
+    const char *want;
+} call_cases[] = {
+    /* document 01: S under both vectors */
+    { GOOD, CARD_S, "A0000000", 0, W(3), "0: 0 0 0" },
+    { GOOD, CARD_S, "A0000001", 0, W(3), "0: 1 1 1" },
+    { CHANGE, CARD_S, "A0000000", 0, W(3), "3: 0 1 2" },
+    { CHANGE, CARD_S, "A0000000", 1, W(3), "1: 1" },
+    { CHANGE, CARD_S, "A0000000", 2, W(3), "1: 2" },
+    { CHANGE, CARD_S, "A0000001", 0, W(3), "3: 0 1 2" },
+    { CHANGE, CARD_S, "A0000001", 1, W(5), "2: 1 2" },
+    { CHANGE, CARD_S, "A0000001", 2, W(3), "1: 2" },
+    { CRITICAL, CARD_S, "A0000000", 0, W(3), "0: 0 0 0" },
+    { CRITICAL, CARD_S, "A0000001", 0, W(4), "0: 1 1 1" },
+    { FIRST, CARD_S, "", 0, W(12), "0: C0000000*12" },
+    { TALLY, CARD_S, "", 0, W(12), "0: 0*12" },
+    { FIRST, CARD_S, "A0000000", 0, W(12), "2: C0000000*7 E0000000 C0000000*3 E0000000" },
+    { TALLY, CARD_S, "A0000000", 0, W(12), "2: 0*7 1 0 0 0 1" },
+    { FIRST, CARD_S, "A0000001", 0, W(12),
+      "6: E0000000 C0000000 E0000000 C0000000 E0000000 C0000000 E0000000 C0000000 E0000000 C0000000 E0000000 C0000000" },
+    { TALLY, CARD_S, "A0000001", 0, W(12), "6: 1 0 1 0 1 0 1 0 1 0 1 0" },
+    { FIRST, CARD_S, "A0000000 A0000001", 0, W(14),
+      "8: E0000001 C0000000 E0000001 C0000000 E0000001 C0000000 E0000001 E0000000 E0000001 C0000000 E0000001 E0000000" },
+    { TALLY, CARD_S, "A0000000 A0000001", 0, W(14), "8: 1 0 1 0 1 0 1 1 1 0 1 1" },
+    /* a repeated vector counts each time; the first vector stays the first */
+    { TALLY, CARD_S, "A0000000 A0000001 A0000000 A0000000 A0000001", 0, W(12), "8: 2 0 2 0 2 0 2 3 2 0 2 3" },
+    { FIRST, CARD_S, "A0000001 A0000001 A0000000", 0, W(12),
+      "8: E0000000 C0000000 E0000000 C0000000 E0000000 C0000000 E0000000 E0000002 E0000000 C0000000 E0000000 E0000002" },
+    /* document 01: Akers's f under A0000004 */
+    { GOOD, CARD_F, "A0000004", 0, W(4), "0: 0 0 1 1" },
+    { CHANGE, CARD_F, "A0000004", 0, W(4), "1: 0" },
+    { CHANGE, CARD_F, "A0000004", 1, W(4), "2: 1 3" },
+    { CHANGE, CARD_F, "A0000004", 2, W(4), "2: 2 3" },
+    { CHANGE, CARD_F, "A0000004", 3, W(4), "1: 3" },
+    { CRITICAL, CARD_F, "A0000004", 0, W(3), "0: 0 1 1" },
+    { FIRST, CARD_F, "A0000004", 0, W(14),
+      "5: C0000000*3 E0000000*2 C0000000*4 E0000000*2 C0000000 E0000000 C0000000" },
+    { TALLY, CARD_F, "A0000004", 0, W(14), "5: 0 0 0 1 1 0 0 0 0 1 1 0 1 0" },
+    /* an observable graph that is read, a graph that nobody reads, a node with equal exits */
+    { CHANGE, "0 40000001 60000000 80000001 20000001 60000001 80000001", "A0000000", 0, W(3), "3: 0 1 2" },
+    { CHANGE, "0 40000001 60000000 80000001 20000001 60000001 80000001", "A0000000", 2, W(3), "1: 2" },
+    { TALLY, "0 40000001 60000000 80000001 20000001 60000001 80000001", "A0000000", 0, W(10), "3: 0 1 0 0 0 1 0 1 0 0" },
+    { TALLY, "0 40000002 60000000 8000C003 60000000 80000001", "A0000001", 0, W(8), "3: 0 0 1 0 1 0 1 0" },
+    { CRITICAL, "0 40000002 60000000 8000C003 60000000 80000001", "A0000001", 0, W(2), "0: 0 1" },
+    /* numbers too high */
+    { CHANGE, CARD_S, "A0000000", 3, W(3), "refused 11 0" },
+    { CHANGE, CARD_S, "A0000000", 4294967295u, W(3), "refused 11 0" },
+    { CHANGE, CARD_S, "A0000000", 3, W(2), "refused 11 0" },
+    { CHANGE, CARD_S, "60000000", 3, W(2), "refused 10 0" },
+    /* buffers too short: a change list's is, even where the list would fit */
+    { CHANGE, CARD_S, "A0000000", 1, W(2) + 3, "refused 12 0" },
+    { CHANGE, CARD_S, "A0000000", 1, 0, "refused 12 0" },
+    { CRITICAL, CARD_S, "A0000001", 0, W(2) + 3, "refused 12 0" },
+    { FIRST, CARD_S, "A0000001", 0, W(11), "refused 12 0" },
+    { FIRST, CARD_S, "", 0, W(11) + 3, "refused 12 0" },
+    { TALLY, CARD_S, "A0000001", 0, W(11) + 1, "refused 12 0" },
+    { TALLY, CARD_S, "", 0, 0, "refused 12 0" },
+    { CHECK, CARD_S, "", 0, W(4) + 3, "refused 12 0" },
+    { CHECK, CARD_S, "", 0, 0, "refused 12 0" },
+    /* leftover bytes of a buffer are unused */
+    { CHECK, CARD_S, "", 0, W(5) + 3, "0: 1 3 3 1 12" },
+    { CHECK, CARD_S, "", 0, W(9), "0: 1 3 3 1 12" },
+    { GOOD, CARD_S, "A0000001", 0, W(3) + 1, "0: 1 1 1" },
+    { FAULT, CARD_S, "A0000001", 0, W(3) + 2, "0: 1 0 0" },
+    { CHANGE, CARD_S, "A0000001", 1, W(3) + 3, "2: 1 2" },
+    { CRITICAL, CARD_S, "A0000001", 0, W(3) + 2, "0: 1 1 1" },
+    { FIRST, CARD_S, "", 0, W(12) + 3, "0: C0000000*12" },
+    { TALLY, CARD_S, "A0000001", 0, W(12) + 2, "6: 1 0 1 0 1 0 1 0 1 0 1 0" },
+    /* leftover bytes of a card: 4 at the word count, before 10 and 12 */
+    { CHECK, CARD_S " +1", "", 0, 0, "refused 4 9" },
+    { GOOD, CARD_S " +2", "60000000", 0, 0, "refused 4 9" },
+    { CHANGE, CARD_S " +1", "A0000001", 9, 0, "refused 4 9" },
+    { TALLY, CARD_S " +3", "A0000001 +1", 0, 0, "refused 4 9" },
+    { FIRST, CUT_S " +1", "A0000001", 0, W(12), "refused 4 4" },
+    /* leftover bytes of vectors: a wrong number of words, before any word's kind */
+    { GOOD, CARD_S, "A0000001 +1 | A0000001 +3 | +2 | 60000000 +1", 0, W(3), "refused 10 0" },
+    { FIRST, CARD_S, "A0000001 +1 | +2 | +3 | A0000000 60000000 +1", 0, W(12), "refused 10 0" },
+    { TALLY, CARD_17, "A0000000 60000000 +1 | A0000000 +3", 0, W(38), "refused 10 0" },
+    { CRITICAL, CARD_17, "A0000000 60000000 +1 | A0000000 +3", 0, W(1), "refused 10 0" },
+    /* a list: its number of words, then each word */
+    { FIRST, CARD_17, "A0000000 | A0000000 A0000000 A0000000 | A0000000 60000000 A0000000", 0, W(38), "refused 10 0" },
+    { TALLY, CARD_17, "A0000000 A0000000 A0000000 A0000002 | A0000000*3 60000000 | A0000000*3 A0010000", 0, W(38), "refused 10 3" },
+    { TALLY, CARD_17, "A0000000*2 60000000 A0000002 | A0000000*2 A0010000 60000000", 0, W(38), "refused 10 2" },
+    { TALLY, CARD_17, "A0000000*2 A0000001 A0000001", 0, W(38), "3: 0 2 0*31 2 0 0 0 2" },
+    { FIRST, CARD_S, "A0000000 60000000", 0, W(12), "refused 10 1" },
+    { FIRST, CARD_S, "A0000001 A0000002", 0, W(12), "refused 10 1" },
+    /* a call on one vector wants just one */
+    { CRITICAL, CARD_S, " | A0000000 A0000001", 0, W(3), "refused 10 0" },
+    { CHANGE, CARD_S, " | A0000000 A0000001", 0, W(3), "refused 10 0" },
+    { FAULT, CARD_S, " | A0000000 A0000001", 0, W(3), "refused 10 0" },
+    { GOOD, CARD_17, "A0000000 60000000 A0000000", 0, W(18), "refused 10 0" },
+    /* orders: 9, 10, 11, 12 */
+    { CHECK, CUT_S, "", 0, 0, "refused 9 4" },
+    { TALLY, CUT_S, "60000000", 0, 0, "refused 9 4" },
+    { FIRST, CARD_S, "60000000", 0, W(11), "refused 10 0" },
+    { TALLY, CARD_S, "60000000", 0, W(11), "refused 10 0" },
+    { CRITICAL, CARD_S, "60000000", 0, 0, "refused 10 0" },
+    { FIRST, CARD_S, "A0000001*65536", 0, 0, "refused 10 0" },
+    { FAULT, CARD_S, "A0000000", 12, W(3), "refused 11 0" },
+    /* 65,535 vectors, and one more */
+    { TALLY, CARD_S, "A0000001*65535", 0, W(12), "6: 65535 0 65535 0 65535 0 65535 0 65535 0 65535 0" },
+    { FIRST, CARD_S, "A0000000*65534 A0000001", 0, W(12),
+      "8: E000FFFE C0000000 E000FFFE C0000000 E000FFFE C0000000 E000FFFE E0000000 E000FFFE C0000000 E000FFFE E0000000" },
+    { TALLY, CARD_S, "A0000001*65536 | 60000000*65536 | A0000001 60000000*65535", 0, W(12), "refused 10 0" },
+    { FIRST, CARD_S, "A0000001*65536 | A0000001*65536 +1", 0, W(12), "refused 10 0" },
+    { TALLY, CARD_S, "A0000001*65534 60000000", 0, W(12), "refused 10 65534" },
+    { TALLY, CARD_17, "A0000000*131070", 0, W(38), "3: 0 65535 0*31 65535 0 0 0 65535" },
+    { TALLY, CARD_17, "A0000000*131072 | A0000000*131071 | A0000000 60000000 A0000000*131070", 0, W(38), "refused 10 0" },
+    /* a card at all three limits: 512 inputs, and 512 graphs of 8 nodes that read input 0 */
+    { GOOD, "0*512 obs8*512", "A0000001 A0000000*31", 0, W(1024), "0: 1 0*511 1*512" },
+    { CHANGE, "0*512 obs8*512", "A0000000*32", 1, W(1024), "1: 1" },
+    { CRITICAL, "0*512 obs8*512", "A0000001 A0000000*31", 0, W(4096), "0: 1*4096" },
+    { FIRST, "0*512 obs8*512", "A0000000*32", 0, W(10239) + 3, "refused 12 0" },
+    /* S, vectors */
+    { GOOD, CARD_S, "", 0, W(3), "refused 10 0" },
+    { GOOD, CARD_S, "A0000000", 0, W(3), "0: 0 0 0" },
+    { GOOD, CARD_S, "A0000000 A0000000 | A0000000 A0000000 A000FFFF", 0, W(3), "refused 10 0" },
+    { GOOD, CARD_S, "A0000001", 0, W(3), "0: 1 1 1" },
+    { GOOD, CARD_S, "A0000002 | A0000007 | A0000008 | A0008000 | A000FFFF | A0010000 | A8000001 | "
+      "B0000000 | 00000000 | 20000001 | 60000000 | 80000001 | C0000000 | FFFFFFFF", 0, W(3), "refused 10 0" },
+    /* Akers's f, vectors */
+    { GOOD, CARD_F, "A0000000", 0, W(4), "0: 0*4" },
+    { GOOD, CARD_F, "A0000001", 0, W(4), "0: 1 0 0 1" },
+    { GOOD, CARD_F, "A0000002", 0, W(4), "0: 0 1 0 0" },
+    { GOOD, CARD_F, "A0000007", 0, W(4), "0: 1*4" },
+    { GOOD, CARD_F, "A0000008 | A0008000 | A000FFFF | A0010000 | A8000001 | B0000000 | "
+      "00000000 | 20000001 | 60000000 | 80000001 | C0000000 | FFFFFFFF", 0, W(4), "refused 10 0" },
+    /* 16 inputs */
+    { GOOD, CARD_16, "", 0, W(17), "refused 10 0" },
+    { GOOD, CARD_16, "A0000000", 0, W(17), "0: 0*17" },
+    { GOOD, CARD_16, "A0000000 A0000000 | A0000000 A0000000 A000FFFF", 0, W(17), "refused 10 0" },
+    { GOOD, CARD_16, "A0000001", 0, W(17), "0: 1 0*16" },
+    { GOOD, CARD_16, "A0000002", 0, W(17), "0: 0 1 0*15" },
+    { GOOD, CARD_16, "A0000007", 0, W(17), "0: 1 1 1 0*14" },
+    { GOOD, CARD_16, "A0000008", 0, W(17), "0: 0 0 0 1 0*13" },
+    { GOOD, CARD_16, "A0008000", 0, W(17), "0: 0*15 1 1" },
+    { GOOD, CARD_16, "A000FFFF", 0, W(17), "0: 1*17" },
+    { GOOD, CARD_16, "A0010000 | A8000001 | B0000000 | 00000000 | "
+      "20000001 | 60000000 | 80000001 | C0000000 | FFFFFFFF", 0, W(17), "refused 10 0" },
+    /* 17 inputs */
+    { GOOD, CARD_17, " | A0000000", 0, W(18), "refused 10 0" },
+    { GOOD, CARD_17, "A0000000 A0000000", 0, W(18), "0: 0*18" },
+    { GOOD, CARD_17, "A0000000 A0000000 A000FFFF", 0, W(18), "refused 10 0" },
+    { GOOD, CARD_17, "A000FFFF A0000001", 0, W(18), "0: 1*18" },
+    { GOOD, CARD_17, "A0008000 A0000000", 0, W(18), "0: 0*15 1 0 1" },
+    { GOOD, CARD_17, "A0000000 A0000002 | A0000000 A0010000 | A0000000 60000000", 0, W(18), "refused 10 1" },
+    { GOOD, CARD_17, "60000000 A0000000 | A0010000 A0000000 | "
+      "A0010000 60000000 | 60000000 A0000002", 0, W(18), "refused 10 0" },
+    /* S, fault numbers and buffers */
+    { FAULT, CARD_S, "A0000001", 12, W(4), "refused 11 0" },
+    { FAULT, CARD_S, "A0000001", 2147483647, W(4), "refused 11 0" },
+    { FAULT, CARD_S, "A0000001", 2147483648u, W(4), "refused 11 0" },
+    { FAULT, CARD_S, "A0000001", 4294967295u, W(4), "refused 11 0" },
+    { GOOD, CARD_S, "A0000001", 0, W(0), "refused 12 0" },
+    { FAULT, CARD_S, "A0000001", 0, W(0), "refused 12 0" },
+    { GOOD, CARD_S, "A0000001", 0, W(1), "refused 12 0" },
+    { FAULT, CARD_S, "A0000001", 0, W(1), "refused 12 0" },
+    { GOOD, CARD_S, "A0000001", 0, W(2), "refused 12 0" },
+    { FAULT, CARD_S, "A0000001", 0, W(2), "refused 12 0" },
+    { FAULT, CARD_S, "A0000001", 0, W(3), "0: 1 0 0" },
+    { GOOD, CARD_S, "A0000001", 0, W(4), "0: 1 1 1" },
+    { FAULT, CARD_S, "A0000001", 0, W(4), "0: 1 0 0" },
+    { GOOD, CARD_S, "A0000001", 0, W(5), "0: 1 1 1" },
+    { FAULT, CARD_S, "A0000001", 0, W(5), "0: 1 0 0" },
+    /* Akers's f, fault numbers and buffers */
+    { FAULT, CARD_F, "A0000001", 14, W(4), "refused 11 0" },
+    { FAULT, CARD_F, "A0000001", 2147483647, W(4), "refused 11 0" },
+    { FAULT, CARD_F, "A0000001", 2147483648u, W(4), "refused 11 0" },
+    { FAULT, CARD_F, "A0000001", 4294967295u, W(4), "refused 11 0" },
+    { GOOD, CARD_F, "A0000001", 0, W(0), "refused 12 0" },
+    { FAULT, CARD_F, "A0000001", 0, W(0), "refused 12 0" },
+    { GOOD, CARD_F, "A0000001", 0, W(1), "refused 12 0" },
+    { FAULT, CARD_F, "A0000001", 0, W(1), "refused 12 0" },
+    { GOOD, CARD_F, "A0000001", 0, W(2), "refused 12 0" },
+    { FAULT, CARD_F, "A0000001", 0, W(2), "refused 12 0" },
+    { GOOD, CARD_F, "A0000001", 0, W(3), "refused 12 0" },
+    { FAULT, CARD_F, "A0000001", 0, W(3), "refused 12 0" },
+    { FAULT, CARD_F, "A0000001", 0, W(4), "0: 1 0 0 0" },
+    { GOOD, CARD_F, "A0000001", 0, W(5), "0: 1 0 0 1" },
+    { FAULT, CARD_F, "A0000001", 0, W(5), "0: 1 0 0 0" },
+    /* S, orders */
+    { FAULT, CARD_S, "A0000001", 11, W(3), "0: 1 1 1" },
+    { FAULT, CARD_S, "A0000001", 12, W(3), "refused 11 0" },
+    { FAULT, CARD_S, "A0000001", 11, W(2), "refused 12 0" },
+    { FAULT, CARD_S, "A0000001", 12, W(2), "refused 11 0" },
+    { GOOD, CARD_S, "60000000", 0, W(2), "refused 10 0" },
+    { FAULT, CARD_S, "60000000", 11, W(3), "refused 10 0" },
+    { FAULT, CARD_S, "60000000", 12, W(3), "refused 10 0" },
+    { FAULT, CARD_S, "60000000", 11, W(2), "refused 10 0" },
+    { FAULT, CARD_S, "60000000", 12, W(2), "refused 10 0" },
+    /* S cut to 4 words, orders */
+    { GOOD, CUT_S, "A0000001", 0, W(3), "refused 9 4" },
+    { GOOD, CUT_S, "A0000001", 0, W(2), "refused 9 4" },
+    { FAULT, CUT_S, "A0000001", 11, W(3), "refused 9 4" },
+    { FAULT, CUT_S, "A0000001", 12, W(3), "refused 9 4" },
+    { FAULT, CUT_S, "A0000001", 11, W(2), "refused 9 4" },
+    { FAULT, CUT_S, "A0000001", 12, W(2), "refused 9 4" },
+    { GOOD, CUT_S, "60000000", 0, W(3), "refused 9 4" },
+    { GOOD, CUT_S, "60000000", 0, W(2), "refused 9 4" },
+    { FAULT, CUT_S, "60000000", 11, W(3), "refused 9 4" },
+    { FAULT, CUT_S, "60000000", 12, W(3), "refused 9 4" },
+    { FAULT, CUT_S, "60000000", 11, W(2), "refused 9 4" },
+    { FAULT, CUT_S, "60000000", 12, W(2), "refused 9 4" },
+    /* 17 inputs, orders */
+    { GOOD, CARD_17, "A000FFFF A0000001", 0, W(17), "refused 12 0" },
+    { FAULT, CARD_17, "A000FFFF A0000001", 37, W(18), "0: 1*18" },
+    { FAULT, CARD_17, "A000FFFF A0000001", 38, W(18), "refused 11 0" },
+    { FAULT, CARD_17, "A000FFFF A0000001", 37, W(17), "refused 12 0" },
+    { FAULT, CARD_17, "A000FFFF A0000001", 38, W(17), "refused 11 0" },
+    { GOOD, CARD_17, "A0000000 A0000002", 0, W(17), "refused 10 1" },
+    { FAULT, CARD_17, "A0000000 A0000002", 37, W(18), "refused 10 1" },
+    { FAULT, CARD_17, "A0000000 A0000002", 38, W(18), "refused 10 1" },
+    { FAULT, CARD_17, "A0000000 A0000002", 37, W(17), "refused 10 1" },
+    { FAULT, CARD_17, "A0000000 A0000002", 38, W(17), "refused 10 1" },
+    /* 1,024 graphs and 4,096 nodes */
+    { GOOD, "0 link4*1022 link8", "A0000000", 0, W(1030), "0: 0*1024" },
+    { FAULT, "0 link4*1022 link8", "A0000000", 8190, W(1030), "0: 0*1024" },
+    { FAULT, "0 link4*1022 link8", "A0000000", 9216, W(1030), "0: 0*1024" },
+    { FAULT, "0 link4*1022 link8", "A0000000", 10239, W(1030), "0: 0*1023 1" },
+    { FAULT, "0 link4*1022 link8", "A0000000", 10240, W(1030), "refused 11 0" },
+    { GOOD, "0 link4*1022 link8", "A0000001", 0, W(1030), "0: 1*1024" },
+    { FAULT, "0 link4*1022 link8", "A0000001", 8190, W(1030), "0: 1*1023 0" },
+    { FAULT, "0 link4*1022 link8", "A0000001", 9216, W(1030), "0: 1*512 0*512" },
+    { FAULT, "0 link4*1022 link8", "A0000001", 10239, W(1030), "0: 1*1024" },
+    { FAULT, "0 link4*1022 link8", "A0000001", 10240, W(1030), "refused 11 0" },
+    /* a graph of 4,096 nodes */
+    { GOOD, "0 link4096", "A0000000", 0, W(1030), "0: 0*2" },
+    { FAULT, "0 link4096", "A0000000", 4096, W(1030), "0: 0*2" },
+    { FAULT, "0 link4096", "A0000000", 8190, W(1030), "0: 0*2" },
+    { FAULT, "0 link4096", "A0000000", 8195, W(1030), "0: 0 1" },
+    { FAULT, "0 link4096", "A0000000", 8196, W(1030), "refused 11 0" },
+    { GOOD, "0 link4096", "A0000001", 0, W(1030), "0: 1*2" },
+    { FAULT, "0 link4096", "A0000001", 4096, W(1030), "0: 1 0" },
+    { FAULT, "0 link4096", "A0000001", 8190, W(1030), "0: 1 0" },
+    { FAULT, "0 link4096", "A0000001", 8195, W(1030), "0: 1*2" },
+    { FAULT, "0 link4096", "A0000001", 8196, W(1030), "refused 11 0" },
+    /* 1,000 graphs, each reading the one below twice */
+    { GOOD, "0 link2*1000", "A0000000", 0, W(1030), "0: 0*1001" },
+    { FAULT, "0 link2*1000", "A0000000", 1000, W(1030), "0: 0*1001" },
+    { FAULT, "0 link2*1000", "A0000000", 5000, W(1030), "0: 0*1001" },
+    { FAULT, "0 link2*1000", "A0000000", 6001, W(1030), "0: 0*1000 1" },
+    { FAULT, "0 link2*1000", "A0000000", 6002, W(1030), "refused 11 0" },
+    { GOOD, "0 link2*1000", "A0000001", 0, W(1030), "0: 1*1001" },
+    { FAULT, "0 link2*1000", "A0000001", 1000, W(1030), "0: 1*251 0*750" },
+    { FAULT, "0 link2*1000", "A0000001", 5000, W(1030), "0: 1*500 0*501" },
+    { FAULT, "0 link2*1000", "A0000001", 6001, W(1030), "0: 1*1001" },
+    { FAULT, "0 link2*1000", "A0000001", 6002, W(1030), "refused 11 0" },
+    /* 1,023 inputs */
+    { GOOD, ALL_INPUTS, "A000FFFF*64", 0, W(1030), "refused 10 63" },
+    { GOOD, ALL_INPUTS, "A000FFFF*63 A0007FFF", 0, W(1030), "0: 1*1024" },
+    { GOOD, ALL_INPUTS, "A000FFFF*63", 0, W(1030), "refused 10 0" },
+};
+
+/* ---- words out of text ---- */
+
+enum { ROOM_WORDS = 64 * 65536 + 16 };
+
+struct text_words {
+    uint32_t *words;
+    size_t count;
+    unsigned odd;
+    unsigned graphs; /* so far, for the reads of links */
+};
+
+static void push(struct text_words *t, uint32_t w)
+{
+    if (t->count < ROOM_WORDS)
+        t->words[t->count++] = w;
+}
+
+static void push_nodes(struct text_words *t, unsigned n, uint32_t read, int goes_on)
+{
+    for (unsigned k = 0; k < n; k++) {
+        push(t, 0x60000000u + read);
+        push(t, k + 1 == n && !goes_on ? 0x80000001u : 0x80000003u + k);
+    }
+}
+
+/* One token without its repetition. */
+static void push_token(struct text_words *t, const char *token, size_t len)
+{
+    unsigned n = (unsigned)strtoul(token + strcspn(token, "0123456789"), NULL, 10);
+    if (!strncmp(token, "chain", 5) || !strncmp(token, "part", 4)) {
+        push_nodes(t, n, 0, token[0] == 'p');
+    } else if (!strncmp(token, "obs", 3) || !strncmp(token, "link", 4)) {
+        push(t, 0x40000000u + n);
+        push_nodes(t, n, token[0] == 'l' ? t->graphs - 1 : 0, 0);
+        t->graphs++;
+    } else {
+        push(t, (uint32_t)strtoul(token, NULL, len == 8 ? 16 : 10));
+        t->graphs += t->words[t->count - 1] == 0;
+    }
+}
+
+/* Takes text up to its end or a |; where it stopped. */
+static const char *parse(const char *text, struct text_words *t)
+{
+    t->count = t->odd = t->graphs = 0;
+    for (;;) {
+        size_t len, times = 1;
+        text += strspn(text, " ");
+        if (!*text || *text == '|')
+            return text;
+        if (*text == '+') {
+            t->odd = (unsigned)(text[1] - '0');
+            text += 2;
+            continue;
+        }
+        len = strcspn(text, " *|");
+        if (text[len] == '*')
+            times = strtoul(text + len + 1, NULL, 10);
+        while (times-- > 0)
+            push_token(t, text, len);
+        text += strcspn(text, " |");
+    }
+}
+
+/* The bytes of parsed words. Leftover bytes are no words, so their content is free. */
+static uint8_t *bytes_of(const struct text_words *t, size_t *len)
+{
+    uint8_t *bytes = malloc(4 * t->count + t->odd + 1);
+    if (!bytes)
+        abort();
+    for (size_t i = 0; i < 4 * t->count; i++)
+        bytes[i] = (uint8_t)(t->words[i / 4] >> (24 - 8 * (i % 4)));
+    memset(bytes + 4 * t->count, 0x80, t->odd);
+    *len = 4 * t->count + t->odd;
+    return bytes;
+}
+
+static struct text_words card_words, vector_words, want_words;
+
+/* ---- one call against its expected answer ---- */
+
+static unsigned cases, differ;
+
+enum { GUARD = 16, BUFFER = W(10400), CONTENT = 0x6B };
+static uint8_t buffer[BUFFER + 2 * GUARD], want[BUFFER + 2 * GUARD];
+
+static uint64_t answer_of(const char *text)
+{
+    unsigned long long number, position;
+    if (sscanf(text, "refused %llu %llu", &number, &position) == 2)
+        return number * 4294967296u + position;
+    return strtoull(text, NULL, 10);
+}
+
+/* The expected buffer: as it was, with the expected words at its front. */
+static void expect_buffer(const char *text)
+{
+    size_t len;
+    uint8_t *bytes;
+    memset(want, CONTENT, sizeof want);
+    memset(buffer, CONTENT, sizeof buffer);
+    if (!isdigit((unsigned char)text[0]))
+        return;
+    parse(strchr(text, ':') + 1, &want_words);
+    bytes = bytes_of(&want_words, &len);
+    memcpy(want + GUARD, bytes, len);
+    free(bytes);
+}
+
+static void tell(const char *name, const struct asked *a, const char *text, uint64_t got)
+{
+    differ++;
+    printf("DIFFERENCE: %s%s%s, number %u: expected %.100s, engine %llu %llu", name ? name : "", name ? ", " : "",
+           call_names[a->call], (unsigned)a->number, text, (unsigned long long)(got >> 32), (unsigned long long)(got & 0xFFFFFFFFu));
+    for (size_t i = 0; i < sizeof buffer; i++)
+        if (buffer[i] != want[i]) {
+            printf(", buffer byte %ld is %02X, should be %02X", (long)i - GUARD, buffer[i], want[i]);
+            break;
+        }
+    printf("\n");
+}
+
+/* Lends copies, so that their bytes can be compared afterwards. */
+static void one_call(const char *name, struct asked *a, size_t room, const char *text)
+{
+    uint8_t *card = malloc(a->card_len + 1), *vectors = malloc(a->vectors_len + 1);
+    const uint8_t *card_was = a->card, *vectors_was = a->vectors;
+    uint64_t got;
+    if (!card || !vectors)
+        abort();
+    memcpy(card, a->card, a->card_len);
+    memcpy(vectors, a->vectors, a->vectors_len);
+    a->card = card;
+    a->vectors = vectors;
+    expect_buffer(text);
+    cases++;
+    got = ask_engine(a, buffer + GUARD, room);
+    if (got != answer_of(text) || memcmp(buffer, want, sizeof buffer) || memcmp(card, card_was, a->card_len) ||
+        memcmp(vectors, vectors_was, a->vectors_len))
+        tell(name, a, text, got);
+    a->card = card_was;
+    a->vectors = vectors_was;
+    free(card);
+    free(vectors);
+}
+
+/* One card with each list of vectors in a text. */
+static void each_list(const char *name, struct asked *a, const char *card, const char *vectors, size_t room, const char *text)
+{
+    uint8_t *card_bytes, *vector_bytes;
+    parse(card, &card_words);
+    card_bytes = bytes_of(&card_words, &a->card_len);
+    a->card = card_bytes;
+    do {
+        vectors = parse(vectors, &vector_words);
+        vector_bytes = bytes_of(&vector_words, &a->vectors_len);
+        a->vectors = vector_bytes;
+        one_call(name, a, room, text);
+        free(vector_bytes);
+    } while (*vectors++ == '|');
+    free(card_bytes);
+}
+
+/* ---- the tables ---- */
+
+static void run_checks(void)
+{
+    for (size_t i = 0; i < sizeof check_cases / sizeof *check_cases; i++) {
+        const struct check_case *c = check_cases + i;
+        struct asked a = { .call = CHECK };
+        char text[80];
+        snprintf(text, sizeof text, "%s%s", isdigit((unsigned char)c->want[0]) ? "0: " : "", c->want);
+        each_list(c->name, &a, c->card, "", W(5), text);
+    }
+}
+
+/* The values of one row: the first are the good ones, fault f has those after them. */
+static void run_value_row(const struct value_case *c)
+{
+    const char *bits = c->want;
+    for (uint32_t k = 0; *bits; k++) {
+        struct asked a = { .call = k ? FAULT : GOOD, .number = k - 1 };
+        char text[80] = "0:";
+        size_t n = strcspn(bits, " ");
+        for (size_t g = 0; g < n; g++) {
+            char word[4] = { ' ', bits[g], 0, 0 };
+            strcat(text, word);
+        }
+        each_list("values", &a, c->card, c->vector, W(n + 1), text);
+        bits += n;
+        bits += strspn(bits, " ");
+    }
+}
+
+static void run_values(void)
+{
+    for (size_t i = 0; i < sizeof value_cases / sizeof *value_cases; i++)
+        run_value_row(value_cases + i);
+}
+
+static void run_calls(void)
+{
+    for (size_t i = 0; i < sizeof call_cases / sizeof *call_cases; i++) {
+        const struct call_case *c = call_cases + i;
+        struct asked a = { .call = c->call, .number = c->number };
+        char name[24];
+        snprintf(name, sizeof name, "row %zu", i);
+        each_list(name, &a, c->card, c->vectors, c->room, c->want);
+    }
+}
+
+/* The longest lists: vectors of 64 words for 1,023 inputs, all of them 1, 65,536 of them in 16 MiB. The
+ * graph reads the last input, so of the 2,050 faults the node's 0-exit (0) and the two graphs held at 0
+ * on its way (2,046 and 2,048) are caught. A word that is wrong at the very end is found. */
+static void run_longest_lists(void)
+{
+    struct asked a = { .call = TALLY };
+    size_t words = 64 * (size_t)65536;
+    uint8_t *card, *list = malloc(4 * words);
+    if (!list)
+        abort();
+    parse(ALL_INPUTS, &card_words);
+    card = bytes_of(&card_words, &a.card_len);
+    for (size_t i = 0; i < words; i++)
+        memcpy(list + 4 * i, i % 64 == 63 ? "\xA0\x00\x7F\xFF" : "\xA0\x00\xFF\xFF", 4);
+    a.card = card;
+    a.vectors = list;
+    a.vectors_len = 4 * 64 * 200;
+    one_call("200 vectors of 64 words", &a, W(2050), "3: 200 0*2045 200 0 200 0");
+    a.vectors_len = 4 * words;
+    one_call("65,536 vectors of 64 words", &a, W(2050), "refused 10 0");
+    a.vectors_len = 4 * (words - 64);
+    list[a.vectors_len - 2] = 0xFF; /* a sixteenth input */
+    one_call("65,535 vectors of 64 words, the last one wrong", &a, W(2050), "refused 10 4194239");
+    free(list);
+    free(card);
+}
+
+int main(void)
+{
+    card_words.words = malloc(4 * (size_t)ROOM_WORDS);
+    vector_words.words = malloc(4 * (size_t)ROOM_WORDS);
+    want_words.words = malloc(4 * (size_t)ROOM_WORDS);
+    if (!card_words.words || !vector_words.words || !want_words.words)
+        abort();
+    run_checks();
+    run_values();
+    run_calls();
+    run_longest_lists();
+    differ += run_astray(&cases);
+    printf("cases: %u cases, %u differ\n", cases, differ);
+    free(card_words.words);
+    free(vector_words.words);
+    free(want_words.words);
+    return differ != 0;
+}

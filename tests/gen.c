@@ -1,0 +1,332 @@
+/* gen.c: see gen.h. */
+#include "gen.h"
+
+#include <string.h>
+
+enum { MAX_GRAPHS = 1024, MAX_NODES = 4096, MAX_WORDS = 9216, NONE = 0xFFFF };
+
+/* ---- random numbers (splitmix64) ---- */
+
+static uint64_t state;
+
+void gen_seed(uint64_t seed)
+{
+    state = seed;
+}
+
+static uint64_t next(void)
+{
+    uint64_t z = state += 0x9E3779B97F4A7C15u;
+    z = (z ^ z >> 30) * 0xBF58476D1CE4E5B9u;
+    z = (z ^ z >> 27) * 0x94D049BB133111EBu;
+    return z ^ z >> 31;
+}
+
+uint32_t gen_below(uint32_t n)
+{
+    return (uint32_t)((next() >> 32) * n >> 32);
+}
+
+int gen_chance(unsigned percent)
+{
+    return gen_below(100) < percent;
+}
+
+static unsigned one_of(const unsigned *list, unsigned count)
+{
+    return list[gen_below(count)];
+}
+
+/* ---- cards ---- */
+
+/* The flavour of a card's graphs, in percent. */
+static struct {
+    unsigned chain;   /* a node named by the one just before it */
+    unsigned later;   /* further exits that go to a later node */
+    unsigned equal;   /* further exits equal to their node's other one */
+    unsigned near;    /* reads of one of the last few graphs */
+    unsigned observe; /* observable graphs */
+} style;
+
+static void pick_style(void)
+{
+    style.chain = 25 * gen_below(5);
+    style.later = 20 * gen_below(4);
+    style.equal = gen_chance(50) ? 0 : 30;
+    style.near = 30 * gen_below(4);
+    style.observe = gen_chance(50) ? 15 : 50;
+}
+
+static unsigned exits[MAX_NODES + 1][2];
+
+/* An exit that is not needed to name a node. */
+static unsigned spare_exit(unsigned k, unsigned side, unsigned n)
+{
+    if (exits[k][1 - side] != NONE && gen_chance(style.equal))
+        return exits[k][1 - side];
+    if (k + 1 < n && gen_chance(style.later))
+        return k + 3 + gen_below(n - k - 1);
+    return gen_below(2);
+}
+
+/* Exits of n nodes, each node but the first named by an earlier one. */
+static void make_exits(unsigned n)
+{
+    static unsigned slot[2 * MAX_NODES + 4];
+    unsigned open = 0;
+    for (unsigned k = 0; k < n; k++) {
+        if (k > 0) {
+            unsigned i = gen_chance(style.chain) ? open - 1 - gen_below(2) : gen_below(open);
+            exits[slot[i] / 2][slot[i] % 2] = k + 2;
+            slot[i] = slot[--open];
+        }
+        exits[k][0] = exits[k][1] = NONE;
+        slot[open++] = 2 * k;
+        slot[open++] = 2 * k + 1;
+    }
+    for (unsigned i = 0; i < open; i++)
+        exits[slot[i] / 2][slot[i] % 2] = spare_exit(slot[i] / 2, slot[i] % 2, n);
+}
+
+static unsigned pick_read(unsigned below)
+{
+    unsigned near = below < 4 ? below : 4;
+    return gen_chance(style.near) ? below - 1 - gen_below(near) : gen_below(below);
+}
+
+static void put(struct input *in, uint32_t w)
+{
+    if (in->card_words < GEN_CARD_ROOM)
+        in->card[in->card_words++] = w;
+}
+
+static void put_inputs(struct input *in, unsigned count)
+{
+    memset(in->card, 0, sizeof in->card);
+    in->card_words = in->inputs = in->graphs = count;
+    in->nodes = 0;
+    in->card_odd = 0;
+}
+
+static void put_graph(struct input *in, unsigned n, int observable)
+{
+    make_exits(n);
+    put(in, (observable ? 0x40000000u : 0x20000000u) + n);
+    for (unsigned k = 0; k < n; k++) {
+        put(in, 0x60000000u + pick_read(in->graphs));
+        put(in, 0x80000000u + (exits[k][0] << 14) + exits[k][1]);
+    }
+    in->graphs++;
+    in->nodes += n;
+}
+
+void gen_small_card(struct input *in, unsigned most_inputs)
+{
+    static const unsigned inputs[] = { 1, 1, 2, 2, 3, 4, 5, 8, 15, 16, 17, 20, 33 };
+    static const unsigned outputs[] = { 0, 1, 2, 3, 4, 6, 9, 14 };
+    static const unsigned sizes[] = { 1, 2, 3, 4, 8 };
+    unsigned m, outs = one_of(outputs, 8), size = one_of(sizes, 5);
+    do
+        m = one_of(inputs, 13);
+    while (m > most_inputs);
+    pick_style();
+    put_inputs(in, m);
+    for (unsigned i = 0; i < outs; i++)
+        put_graph(in, 1 + gen_below(size), gen_chance(style.observe));
+    put_graph(in, 1 + gen_below(size), 1);
+    if (gen_chance(20)) /* a hidden graph last */
+        put_graph(in, 1 + gen_below(size), 0);
+}
+
+/* So many graphs with so many nodes in all, spread at random. */
+static void put_graphs(struct input *in, unsigned outs, unsigned nodes)
+{
+    while (outs > 0) {
+        unsigned most = nodes - (outs - 1), mean = nodes / outs;
+        unsigned n = outs == 1 ? nodes : 1 + gen_below(2 * mean);
+        if (n > most)
+            n = most;
+        put_graph(in, n, outs < 3 || gen_chance(3));
+        outs--;
+        nodes -= n;
+    }
+}
+
+static unsigned limit_inputs(void)
+{
+    static const unsigned inputs[] = { 1, 2, 16, 17, 100, 512, 512, 900 };
+    return one_of(inputs, 8);
+}
+
+static void chain_of_links(struct input *in)
+{
+    style.near = 100;
+    put_inputs(in, 1);
+    for (unsigned i = 0; i < 1023; i++)
+        put_graph(in, i == 1022 ? 8 : 4, i == 1022);
+}
+
+static void one_large_graph(struct input *in, unsigned n)
+{
+    style.chain = 100;
+    put_inputs(in, 1 + gen_below(20));
+    put_graph(in, n, 1);
+}
+
+/* Graphs and nodes met, or passed by so many. */
+static void at_limits(struct input *in, unsigned graphs, unsigned nodes)
+{
+    unsigned m = limit_inputs();
+    put_inputs(in, m);
+    put_graphs(in, graphs - m, nodes);
+}
+
+static void few_graphs(struct input *in, unsigned nodes)
+{
+    put_inputs(in, 1 + gen_below(40));
+    put_graphs(in, 1 + gen_below(60), nodes);
+}
+
+static void inputs_mostly(struct input *in)
+{
+    put_inputs(in, 1023);
+    put_graph(in, 1 + gen_below(30), 1);
+}
+
+static const uint32_t odd_words[] = { 0, 1, 0x20000000, 0x20000001, 0x40000001, 0x40010001, 0x60000000, 0x60000001,
+                                      0x80000001, 0x80000002, 0x80000003, 0x8000C001, 0x90000001, 0xA0000000,
+                                      0xC0000000, 0xFFFFFFFF, 0x4000FFFF, 0x40001000, 0x6000FFFF, 0x8FFFFFFF };
+enum { ODD_WORDS = sizeof odd_words / sizeof *odd_words };
+
+void gen_limit_card(struct input *in, unsigned number)
+{
+    pick_style();
+    switch (number % GEN_LIMIT_SHAPES) {
+    case 0: /* all three limits */
+    case 1: at_limits(in, 1024, 4096); break;
+    case 2: at_limits(in, 1024, 2048 + gen_below(2048)); break;
+    case 3: few_graphs(in, 4096); break;
+    case 4: one_large_graph(in, 4096); break;
+    case 5: inputs_mostly(in); break;
+    case 6: chain_of_links(in); break;
+    case 7: at_limits(in, 1023, 4095); break;
+    case 8: /* one graph too many */
+        at_limits(in, 1024, 2048 + gen_below(2048));
+        put(in, odd_words[gen_below(ODD_WORDS)]);
+        break;
+    case 9: few_graphs(in, 4097); break;
+    case 10: one_large_graph(in, 4097); break;
+    default: /* one word too many */
+        at_limits(in, 1024, 4096);
+        put(in, odd_words[gen_below(ODD_WORDS)]);
+    }
+}
+
+/* ---- vectors ---- */
+
+static void put_vector(struct input *in, uint32_t *at)
+{
+    for (unsigned j = 0; 16 * j < in->inputs; j++) {
+        unsigned left = in->inputs - 16 * j;
+        at[j] = 0xA0000000u + gen_below(left < 16 ? 1u << left : 0x10000u);
+    }
+}
+
+void gen_vectors(struct input *in, unsigned count)
+{
+    unsigned w = (in->inputs + 15) / 16, few = gen_chance(30) ? 1 + gen_below(3) : 0;
+    in->vectors_odd = 0;
+    in->vector_words = 0;
+    for (unsigned v = 0; v < count; v++) {
+        uint32_t *at = in->vectors + (size_t)v * w;
+        if (few && v >= few)
+            memmove(at, in->vectors + (size_t)gen_below(few) * w, 4 * (size_t)w);
+        else
+            put_vector(in, at);
+        in->vector_words += w;
+    }
+}
+
+/* ---- spoiling ---- */
+
+static uint32_t changed(uint32_t w)
+{
+    switch (gen_below(5)) {
+    case 0: return w ^ 1u << gen_below(32);
+    case 1: return w ^ 1u << gen_below(16);
+    case 2: return w + 1;
+    case 3: return w - 1;
+    default: return odd_words[gen_below(ODD_WORDS)];
+    }
+}
+
+static void insert(uint32_t *words, size_t *count, size_t room, size_t at, uint32_t w)
+{
+    if (*count + 1 >= room)
+        return;
+    memmove(words + at + 1, words + at, 4 * (*count - at));
+    words[at] = w;
+    ++*count;
+}
+
+static void cut_out(uint32_t *words, size_t *count, size_t at)
+{
+    memmove(words + at, words + at + 1, 4 * (*count - at - 1));
+    --*count;
+}
+
+static void hide_all(struct input *in)
+{
+    for (size_t i = 0; i < in->card_words; i++)
+        if (in->card[i] >> 29 == 2)
+            in->card[i] -= 0x20000000u;
+}
+
+/* One word changed, put in or taken out, the end cut off, more words, leftover bytes. */
+void gen_spoil_card(struct input *in)
+{
+    size_t n = in->card_words, at = gen_below((uint32_t)n + 1);
+    switch (gen_below(10)) {
+    case 0: in->card_words = at; break;
+    case 1: insert(in->card, &in->card_words, GEN_CARD_ROOM, at, odd_words[gen_below(ODD_WORDS)]); break;
+    case 2:
+        if (at < n)
+            cut_out(in->card, &in->card_words, at);
+        break;
+    case 3: put(in, odd_words[gen_below(ODD_WORDS)]); break;
+    case 4: in->card_odd = 1 + gen_below(3); break;
+    case 5: hide_all(in); break;
+    default:
+        if (at < n)
+            in->card[at] = changed(in->card[at]);
+    }
+    if (gen_chance(10))
+        in->card_odd = 1 + gen_below(3);
+}
+
+void gen_spoil_vectors(struct input *in)
+{
+    size_t n = in->vector_words, at = gen_below((uint32_t)n + 1);
+    switch (gen_below(6)) {
+    case 0: in->vector_words = at; break;
+    case 1: insert(in->vectors, &in->vector_words, GEN_VECTOR_ROOM, at, 0xA0000000u); break;
+    case 2: in->vectors_odd = 1 + gen_below(3); break;
+    default:
+        if (at < n)
+            in->vectors[at] = changed(in->vectors[at]);
+    }
+}
+
+size_t gen_bytes(const uint32_t *words, size_t count, unsigned odd, uint8_t *bytes)
+{
+    uint8_t *b = bytes;
+    for (size_t i = 0; i < count; i++) {
+        *b++ = (uint8_t)(words[i] >> 24);
+        *b++ = (uint8_t)(words[i] >> 16);
+        *b++ = (uint8_t)(words[i] >> 8);
+        *b++ = (uint8_t)words[i];
+    }
+    for (unsigned i = 0; i < odd; i++)
+        *b++ = (uint8_t)gen_below(256);
+    return (size_t)(b - bytes);
+}

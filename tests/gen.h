@@ -1,0 +1,41 @@
+/* gen.h: generated cards and vectors, right ones and spoilt ones. The same seed gives the same inputs. */
+#ifndef GEN_H
+#define GEN_H
+
+#include <stddef.h>
+#include <stdint.h>
+
+enum { GEN_CARD_ROOM = 9300, GEN_VECTOR_ROOM = 2 * 65537 };
+
+struct input {
+    uint32_t card[GEN_CARD_ROOM];
+    size_t card_words;
+    unsigned card_odd; /* leftover bytes */
+    uint32_t vectors[GEN_VECTOR_ROOM];
+    size_t vector_words;
+    unsigned vectors_odd;
+    unsigned inputs, graphs, nodes; /* as meant, before anything was spoilt */
+};
+
+void gen_seed(uint64_t seed);
+uint32_t gen_below(uint32_t n); /* 0 to n - 1 */
+int gen_chance(unsigned percent);
+
+/* A small odd card: equal exits, graphs that nobody reads, observable graphs with readers, and reads
+ * of the same graph along several ways. */
+void gen_small_card(struct input *in, unsigned most_inputs);
+
+/* A card at a limit, or one beyond it. Shapes go round with the number. */
+enum { GEN_LIMIT_SHAPES = 12 };
+void gen_limit_card(struct input *in, unsigned number);
+
+/* So many vectors, now and then out of a few that repeat. */
+void gen_vectors(struct input *in, unsigned count);
+
+void gen_spoil_card(struct input *in);
+void gen_spoil_vectors(struct input *in);
+
+/* Words as bytes, with leftover bytes after them; the number of bytes. */
+size_t gen_bytes(const uint32_t *words, size_t count, unsigned odd, uint8_t *bytes);
+
+#endif

@@ -1,0 +1,116 @@
+/* stack.c: how much stack the calls use, on the largest cards. Each call runs in a thread of its own
+ * whose stack was filled with one byte before; what is still that byte afterwards was not used. Fails
+ * where a call uses more than cardhost.h says.
+ */
+#define _GNU_SOURCE
+#include "../include/cardhost.h"
+#include "calls.h"
+
+#include <pthread.h>
+#include <stdio.h>
+#include <stdlib.h>
+#include <string.h>
+#include <sys/mman.h>
+
+enum { STACK = 16 << 20, FILL = 0x5C, WORDS = 9216 };
+
+static uint8_t card[4 * WORDS], vector[4 * 64], buffer[4 * 10240];
+static size_t words, vector_words;
+
+static void put(uint32_t w)
+{
+    for (unsigned i = 0; i < 4; i++)
+        card[4 * words + i] = (uint8_t)(w >> (24 - 8 * i));
+    words++;
+}
+
+/* An observable graph of n nodes that read one graph, the path going through all of them where it is 1. */
+static void put_graph(unsigned n, unsigned read)
+{
+    put(0x40000000u + n);
+    for (unsigned k = 0; k < n; k++) {
+        put(0x60000000u + read);
+        put(k + 1 == n ? 0x80000001u : 0x80000003u + k);
+    }
+}
+
+/* So many inputs, then graphs of n nodes, each reading the one below; all inputs are 1. */
+static void make_card(unsigned inputs, unsigned graphs, unsigned n)
+{
+    words = 0;
+    for (unsigned i = 0; i < inputs; i++)
+        put(0);
+    for (unsigned i = 0; i < graphs; i++)
+        put_graph(n, inputs + i - 1);
+    vector_words = (inputs + 15) / 16;
+    for (unsigned j = 0; j < vector_words; j++) {
+        unsigned left = inputs - 16 * j;
+        uint32_t bits = left < 16 ? (1u << left) - 1 : 0xFFFF;
+        vector[4 * j] = 0xA0;
+        vector[4 * j + 1] = 0;
+        vector[4 * j + 2] = (uint8_t)(bits >> 8);
+        vector[4 * j + 3] = (uint8_t)bits;
+    }
+}
+
+static void *one_call(void *asked)
+{
+    uint64_t answer = ask_engine(asked, buffer, sizeof buffer);
+    return answer >> 32 ? asked : NULL; /* no call here is refused */
+}
+
+/* The bytes of stack that a call used, its thread's own included. */
+static size_t measure(struct asked *a)
+{
+    uint8_t *stack = mmap(NULL, STACK, PROT_READ | PROT_WRITE, MAP_PRIVATE | MAP_ANONYMOUS, -1, 0);
+    pthread_attr_t attributes;
+    pthread_t thread;
+    void *refused = NULL;
+    size_t unused = 0;
+    if (stack == MAP_FAILED)
+        exit(2);
+    memset(stack, FILL, STACK);
+    pthread_attr_init(&attributes);
+    if (pthread_attr_setstack(&attributes, stack, STACK) || pthread_create(&thread, &attributes, one_call, a))
+        exit(2);
+    pthread_join(thread, &refused);
+    while (unused < STACK && stack[unused] == FILL)
+        unused++;
+    munmap(stack, STACK);
+    if (refused) {
+        printf("stack: %s is refused\n", call_names[a->call]);
+        exit(1);
+    }
+    return STACK - unused;
+}
+
+static size_t most[CALLS];
+
+static void each_call(void)
+{
+    for (int call = CHECK; call < CALLS; call++) {
+        struct asked a = { (enum call)call, card, 4 * words, vector, 4 * vector_words, 0 };
+        size_t used = measure(&a);
+        if (used > most[call])
+            most[call] = used;
+    }
+}
+
+int main(void)
+{
+    size_t all = 0;
+    make_card(1, 1, 4096); /* the longest path in one graph */
+    each_call();
+    make_card(1, 1023, 4); /* the longest chain of graphs */
+    each_call();
+    make_card(512, 512, 8); /* all three limits */
+    each_call();
+    printf("stack:");
+    for (int call = CHECK; call < CALLS; call++) {
+        printf(" %s %zu", call_names[call], most[call]);
+        if (most[call] > all)
+            all = most[call];
+    }
+    printf("; the header says %d\n", CARD_STACK);
+    return all > CARD_STACK;
+}
