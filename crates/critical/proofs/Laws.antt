@@ -24,7 +24,7 @@ use Rattle.sweep.specs.Swept.{Swept}
 use Rattle.reach.specs.Reach.{Reach}
 use Rattle.change.specs.Flips.{Has, Between}
 use Rattle.change.proofs.Laws.{flip-starts, flip-input, flip-output}
-use Rattle.critical.specs.Walking.{Grounds, From, Upto, Quiet, Walking, Stepped, Apart, But}
+use Rattle.critical.specs.Walking.{Grounds, From, Upto, Next, Quiet, Walking, Stepped, Apart, But}
 
 -- what the walk stands on
 pub grounds : {ws : List ℕ} {c : Counts} {firsts lows highs x places : List ℕ} → Ready (run ws c [] x) firsts → Swept ws c x (c .graphs) places
@@ -190,6 +190,60 @@ module _ {ws x firsts highs places : List ℕ} {c : Counts} (y : Grounds ws c fi
               ];
             };
           })
+
+-- where it goes on after h
+pub next-one : {n h before low : ℕ} → h < n → Next n h before low (h + 1)
+next-one l = record { above = omega arith; inside = omega arith; past = λ i a b m. absurd (omega arith) }
+
+pub next-far : {n h before low r : ℕ} → before ≤ h + 1 → From n h low r → Next n h before low r
+next-far {n} {h} {before} {low} {r} l f = record {
+  above = f .above;
+  inside = f .inside;
+  past = λ i a b m. (omega arith, elim (decLt i low) [ yes j ↦ j | no j ↦ absurd (omega (arith, f .past i a m (omega arith))) ]);
+}
+
+-- from r on the walk is as at h + 1, since no graph between is listed, by the graphs below n
+module _ {ws x lows highs xs ys : List ℕ} {c : Counts} (a : Shape ws c) (q : Reach ws c lows highs) {g h before limit r : ℕ} (l : g < c .graphs)
+    (s : Walking ws c x g h before xs) (t : Walking ws c x g (h + 1) limit ys) (f : Next (c .graphs) h before (getD lows h 0) r) where
+  passed : (n i : ℕ) → i < n → h < i → i < r → i < c .graphs → flipped ws c x g i ≡ value ws c good x i
+  passed zero i b u e m = absurd (omega arith)
+  passed (suc n) i b u e m =
+      let up = s .above in
+      let p = f .past i u e m in
+      reads-good a x g l i m (λ o. omega arith) (λ k z.
+      let d = a .reads-lower i m k z in
+      elim (decLt (reads ws i k) h) [
+        | yes j ↦ s .kept i k (p .0) m z j
+        | no j ↦ elim (ℕ-discrete (reads ws i k) h) [
+          | yes o ↦ absurd (omega (arith, p .1, rw o at (q .low i k m z)))
+          | no o ↦ passed n (reads ws i k) (omega arith) (omega arith) (omega arith) (omega arith)
+        ]
+      ])
+
+  pub skipped : Walking ws c x g r limit ys
+  skipped =
+      let up = f .above in
+      let above = t .above in
+      record {
+        between = record {
+          long = t .between .long;
+          below = λ i b m. elim (decLt i (h + 1)) [
+            | yes j ↦ t .between .below i j m
+            | no j ↦ t .between .onward i (omega arith) m ∙ sym (passed (suc i) i (omega arith) (omega arith) b m)
+          ];
+          onward = λ i b m. t .between .onward i (omega arith) m;
+        };
+        above = omega arith;
+        inside = t .inside;
+        silent = λ i b m p. elim (decLt i (h + 1)) [
+          | yes j ↦ t .silent i j m p
+          | no j ↦ passed (suc i) i (omega arith) (omega arith) b m
+        ];
+        kept = λ j k b m p d. elim (decLt (reads ws j k) (h + 1)) [
+          | yes o ↦ t .kept j k b m p o
+          | no o ↦ passed (suc (reads ws j k)) (reads ws j k) (omega arith) (omega arith) d (omega (arith, a .reads-lower j m k p))
+        ];
+      }
 
 -- what the walk altered
 pub altered : {ws x xs : List ℕ} {c : Counts} {g start h : ℕ} → Quiet ws c x g start → start ≤ h → Between (flipped ws c x g) (value ws c good x) (c .graphs) h xs

@@ -33,6 +33,12 @@ pub record Upto (n limit high r : ℕ) : Type 0 where
   pub inside : r ≤ n
   pub past : (i : ℕ) → i < n → i ≤ high → i < r
 
+-- r, where the walk goes on after h, is one more, or as far as the lowest reader of h where no node from h + 1 on reads a graph that was listed before h
+pub record Next (n h before low r : ℕ) : Type 0 where
+  pub above : h < r
+  pub inside : r ≤ n
+  pub past : (i : ℕ) → h < i → i < r → i < n → (before ≤ i) × (i < low)
+
 -- no graph below `start` is listed in the change walk of g but g itself
 pub record Quiet (ws : List ℕ) (c : Counts) (x : List ℕ) (g start : ℕ) : Type 0 where
   pub same : (i : ℕ) → i < start → i < c .graphs → (i ≡ g → ⊥) → flipped ws c x g i ≡ value ws c good x i

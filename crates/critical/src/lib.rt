@@ -11,7 +11,7 @@ ghost use Rattle.rules.specs.Rules.{critical};
 ghost use Rattle.sweep.specs.Swept.{Swept};
 ghost use Rattle.reach.specs.Reach.{Reach};
 ghost use Rattle.change.specs.Flips.{Has};
-ghost use Rattle.critical.specs.Walking.{Grounds, From, Upto, Quiet, Walking, Stepped, Apart, But};
+ghost use Rattle.critical.specs.Walking.{Grounds, From, Upto, Next, Quiet, Walking, Stepped, Apart, But};
 use form::Counts;
 
 // Where the walk of graph g starts: at its lowest reader, or at the end where it has none.
@@ -98,11 +98,23 @@ fn put_back(
     }
 }
 
+// Where the walk goes on after graph h: with no reader left of what was listed before it, at its own lowest reader.
+fn next_of(c: Counts, lows: &[u32], h: usize, before: usize) -> usize
+    requires { ⌜ (h < c .graphs) × (c .graphs ≤ 1024) × (h < length (now lows)) ⌝ }
+    ensures { λ r. ⌜ Next (c .graphs) h before (getD (now (lows .entry)) h 0) r ⌝ }
+{
+    if h + 1 < before {
+        return h + 1;
+    }
+    start_of(c, lows, h)
+}
+
 // The walk of graph g, which is flipped and not observable, and what it altered put back: whether an observable graph is listed.
 fn walk_on(
     card: &[u32],
     c: Counts,
     firsts: &[u32],
+    lows: &[u32],
     highs: &[u32],
     vector: &[u32],
     places: &[u32],
@@ -111,7 +123,7 @@ fn walk_on(
     bound: usize,
     flips: &mut [u32],
 ) -> bool
-    requires { ⌜ Grounds (now card) c (now firsts) (now highs) (now vector) (now places) × (start ≤ c .graphs) × Quiet (now card) c (now vector) g start
+    requires { ⌜ Grounds (now card) c (now firsts) (now highs) (now vector) (now places) × Reach (now card) c (now lows) (now highs) × (start ≤ c .graphs) × Quiet (now card) c (now vector) g start
         × Walking (now card) c (now vector) g start bound (now flips) ⌝ }
     ensures { λ r. ⌜ (r ≡ critical (now (card .entry)) c (now (vector .entry)) g)
         × But (value (now (card .entry)) c good (now (vector .entry))) (c .graphs) g (now (flips .exit)) ⌝ }
@@ -124,8 +136,8 @@ fn walk_on(
             put_back(card, c, vector, places, g, start, h, flips);
             return true;
         }
+        h = next_of(c, lows, h, limit);
         limit = next;
-        h += 1;
     }
     put_back(card, c, vector, places, g, start, h, flips);
     false
@@ -158,6 +170,7 @@ pub fn is_critical(
         card,
         c,
         firsts,
+        lows,
         highs,
         vector,
         places,

@@ -23,6 +23,7 @@ walk-on-requires c κs =
     let p = c .before .before .before .before .before .before .before .before .before .before .before .before .before .before .before .before .before .before .pre in
     let f = c .before .before .before .before .before .before .start-of .ensures in (
       grounds (p .0) (p .1) (p .2),
+      p .2,
       f .inside,
       quiet (p .0 .shape) _ _ (p .3) (p .2) f,
       walk-starts (p .0) (p .2) (p .3) f (c .before .before .before .before .before .limit-of .ensures) (sym (c .before .before .before .before .before .before .before .before .before .before .is-observable .ensures) ∙ c .before .before .before .before .before .before .before .before .before .if1 .left) (p .4) (c .before .before .before .before .before .before .before .get .ensures) (c .before .before .before .put .ensures),
