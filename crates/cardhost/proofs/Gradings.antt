@@ -20,8 +20,9 @@ use Rattle.grade.specs.Calls.{gradeTests}
 use Rattle.grade.specs.Graded.{Listed, graded}
 use Rattle.grade.proofs.Tests.{listed}
 use Rattle.cardhost.specs.Calls.{asBytes, room}
-use Rattle.cardhost.specs.Start.{hostStart, Holds}
-use Rattle.cardhost.proofs.Laws.{Call, start-accepts, start-sound}
+use Rattle.hoststart.specs.Start.{hostStart, Holds}
+use Rattle.hoststart.proofs.Laws.{start-accepts, start-sound}
+use Rattle.cardhost.proofs.Laws.{Call}
 
 -- what the worker asks of the words that the start left
 pub grading-asks : (card v words : List ℕ) {c : Counts} → hostStart listVerdict card v ≡ Accepted c → Holds card words → Listed (take (length card / 4) words) c (wordsOf v)

@@ -1,4 +1,3 @@
--- Where refusals stand, how a call starts and goes on, words in lent bytes, and the gradings.
-mod Positions
+-- How a call goes on after its start, words in lent bytes, and the gradings.
 mod Laws
 mod Gradings

@@ -15,7 +15,7 @@ use Rattle.form.specs.declared.Reply.{Reply}
 use Rattle.form.specs.declared.Reply.the-variants as reply
 use Rattle.form.specs.declared.Rule.the-variants.{VectorForm, BufferTooShort}
 use Rattle.form.specs.Answers.{numberOf, valuesOf}
-use Rattle.form.specs.Check.{test, firstBroken, andThen, checkedWith}
+use Rattle.form.specs.Check.{test, firstBroken, andThen}
 use Rattle.form.specs.Calls.{replied, written}
 use Rattle.value.specs.Settings.{faulty}
 use Rattle.value.specs.Values.{value}
@@ -25,15 +25,12 @@ use Rattle.detect.specs.Grading.{mark, tally, marked}
 use Rattle.mark.specs.Calls.{changeTests, criticalTests}
 use Rattle.grade.specs.Calls.{gradeTests}
 use Rattle.hostlist.specs.Form.{leftover}
+use Rattle.hoststart.specs.Check.{hostCheck}
 
 -- THE ONE NUMBER that a call returns: for a refusal its number × 4,294,967,296 plus the position, else the number that the call tells
 abbrev pub hostAnswer : Reply → ℕ
 hostAnswer (reply.Done n) = n
 hostAnswer (reply.Refused r p) = numberOf r * 4294967296 + p
-
--- THE CHECK of a card in bytes: that of its whole words; one to three bytes more are rule 4 at the word count, just before rule 9
-unfoldable pub hostCheck : List ℕ → Answer
-hostCheck card = checkedWith (wordsOf card) (length card % 4)
 
 -- a call's own tests: one to three bytes after the vectors' whole words first, which are rule 10 at 0; then those of the call on words
 unfoldable pub hostTests : List ℕ → (List ℕ → Counts → Verdict) → Counts → Verdict

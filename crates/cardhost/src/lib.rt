@@ -10,29 +10,21 @@ ghost use Rattle.words.specs.Bytes.{wordsOf};
 ghost use Rattle.form.specs.Answers.{valuesOf};
 ghost use Rattle.form.specs.Shape.{Shape};
 ghost use Rattle.form.specs.declared.Answer.the-variants.{Accepted};
-ghost use Rattle.form.specs.declared.Verdict.the-variants.{Sound};
 ghost use Rattle.form.specs.declared.Reply.the-variants as reply;
-ghost use Rattle.vectors.specs.Vectors.{width, vectorVerdict, listVerdict};
+ghost use Rattle.vectors.specs.Vectors.{width};
 ghost use Rattle.value.specs.Settings.{faulty};
 ghost use Rattle.value.specs.Values.{value};
 ghost use Rattle.detect.specs.Detects.{changes, criticalAt};
 ghost use Rattle.detect.specs.Grading.{marked};
 ghost use Rattle.grade.specs.Graded.{Listed, graded};
-ghost use Rattle.hostlist.specs.Form.{hostForm};
-ghost use Rattle.cardhost.specs.Calls.{hostAnswer, hostCheck, asBytes, room, checkAnswer, checkBuffer, valuesAnswer, valuesBuffer, changeAnswer, changeBuffer, criticalAnswer, criticalBuffer, gradeAnswer, markingBuffer, tallyBuffer};
-ghost use Rattle.cardhost.specs.Start.{Holds, Started, StartedOne, gradingBuffer};
+ghost use Rattle.cardhost.specs.Calls.{hostAnswer, asBytes, room, checkAnswer, checkBuffer, valuesAnswer, valuesBuffer, changeAnswer, changeBuffer, criticalAnswer, criticalBuffer, gradeAnswer, markingBuffer, tallyBuffer};
+ghost use Rattle.cardhost.specs.Either.{gradingBuffer};
 use form::Answer;
 use form::Counts;
 use form::Rule;
 use form::Verdict;
 
-// Room for the words of any card, and for a word a graph, a node and a fault of any card.
-fn card_room() -> [u32; 9216]
-    ensures { λ r. ⌜ 9216 ≡ length r ⌝ }
-{
-    [0u32; 9216]
-}
-
+// Room for a word a graph, a node and a fault of any card.
 fn graph_room() -> [u32; 1024]
     ensures { λ r. ⌜ 1024 ≡ length r ⌝ }
 {
@@ -59,67 +51,6 @@ fn refusal(rule: Rule, position: usize) -> u64
     form::rule_number(rule) as u64 * 4294967296 + position as u64
 }
 
-// The check of a card, whose words go to the front of a buffer.
-fn check_card(card: &[u8], words: &mut [u32]) -> Answer
-    requires { ⌜ 9216 ≤ length (now words) ⌝ }
-    ensures { λ r. ⌜ (r ≡ hostCheck (now (card .entry))) × (length (now (card .entry)) / 4 ≤ 9216 → Holds (now (card .entry)) (now (words .exit))) ⌝ }
-{
-    if 9216 < card.len() / 4 {
-        return Answer::Refused(Rule::CardTooLong, 0);
-    }
-    let n = words::words_of(card, words);
-    card::check_with(&words[..n], card.len() % 4)
-}
-
-// The form of one vector for m inputs, whose words go to the front of a buffer. No vector has more than 64.
-fn check_vector(m: usize, vector: &[u8], x: &mut [u32]) -> Verdict
-    requires { ⌜ (0 < m) × (m ≤ 1024) × (64 ≤ length (now x)) ⌝ }
-    ensures { λ r. ⌜ (r ≡ hostForm vectorVerdict m (now (vector .entry))) × (r ≡ Sound → Holds (now (vector .entry)) (now (x .exit))) ⌝ }
-{
-    if 0 < vector.len() % 4 {
-        return Verdict::Broken(Rule::VectorForm, 0);
-    }
-    if 64 < vector.len() / 4 {
-        return Verdict::Broken(Rule::VectorForm, 0);
-    }
-    let n = words::words_of(vector, x);
-    vectors::check_vector(m, &x[..n])
-}
-
-// How a call with one vector starts: the card is accepted and the vector sound, and their words stand in the front of the buffers; or the call is refused.
-fn start(card: &[u8], vector: &[u8], words: &mut [u32], x: &mut [u32]) -> Answer
-    requires { ⌜ (9216 ≤ length (now words)) × (64 ≤ length (now x)) ⌝ }
-    ensures { λ r. ⌜ StartedOne (now (card .entry)) (now (vector .entry)) (now (words .exit)) (now (x .exit)) r ⌝ }
-{
-    match check_card(card, words) {
-        Answer::Refused(rule, position) => Answer::Refused(rule, position),
-        Answer::Accepted(c) => {
-            let inputs = c.inputs;
-            if let Verdict::Broken(rule, position) = check_vector(inputs, vector, x) {
-                return Answer::Refused(rule, position);
-            }
-            Answer::Accepted(c)
-        }
-    }
-}
-
-// How a grading starts: the card is accepted and the list sound, and the card's words stand in the front of the buffer; or the call is refused.
-fn start_list(card: &[u8], list: &[u8], words: &mut [u32]) -> Answer
-    requires { ⌜ 9216 ≤ length (now words) ⌝ }
-    ensures { λ r. ⌜ Started listVerdict (now (card .entry)) (now (list .entry)) (now (words .exit)) r ⌝ }
-{
-    match check_card(card, words) {
-        Answer::Refused(rule, position) => Answer::Refused(rule, position),
-        Answer::Accepted(c) => {
-            let inputs = c.inputs;
-            if let Verdict::Broken(rule, position) = hostlist::check_list(inputs, list) {
-                return Answer::Refused(rule, position);
-            }
-            Answer::Accepted(c)
-        }
-    }
-}
-
 // The numbers of a check, as words.
 fn numbers_of(c: Counts) -> [u32; 5]
     requires { ⌜ (c .inputs ≤ 10240) × (c .graphs ≤ 10240) × (c .nodes ≤ 10240) × (c .observable ≤ 10240) × (c .faults ≤ 10240) ⌝ }
@@ -140,8 +71,8 @@ pub extern "C" fn card_check(card: &[u8], numbers: &mut [u8]) -> u64
     ensures { λ r. ⌜ (r ≡ checkAnswer (now (card .entry)) (now (numbers .entry)))
         × (now (numbers .exit) ≡ checkBuffer (now (card .entry)) (now (numbers .entry))) ⌝ }
 {
-    let mut words = card_room();
-    match check_card(card, &mut words) {
+    let mut words = hoststart::card_room();
+    match hoststart::check_card(card, &mut words) {
         Answer::Refused(rule, position) => refusal(rule, position),
         Answer::Accepted(c) => {
             if numbers.len() / 4 < 5 {
@@ -169,9 +100,9 @@ fn values_with(card: &[u8], vector: &[u8], faults: &[u32], values: &mut [u8]) ->
     ensures { λ r. ⌜ (r ≡ valuesAnswer (now (card .entry)) (now (vector .entry)) (now (faults .entry)) (now (values .entry)))
         × (now (values .exit) ≡ valuesBuffer (now (card .entry)) (now (vector .entry)) (now (faults .entry)) (now (values .entry))) ⌝ }
 {
-    let mut words = card_room();
+    let mut words = hoststart::card_room();
     let mut x = hostlist::vector_room();
-    match start(card, vector, &mut words, &mut x) {
+    match hoststart::start(card, vector, &mut words, &mut x) {
         Answer::Refused(rule, position) => refusal(rule, position),
         Answer::Accepted(c) => {
             if plain::too_high(c.faults, faults) {
@@ -235,9 +166,9 @@ pub extern "C" fn card_change_list(card: &[u8], vector: &[u8], graph: u32, list:
     ensures { λ r. ⌜ (r ≡ changeAnswer (now (card .entry)) (now (vector .entry)) graph (now (list .entry)))
         × (now (list .exit) ≡ changeBuffer (now (card .entry)) (now (vector .entry)) graph (now (list .entry))) ⌝ }
 {
-    let mut words = card_room();
+    let mut words = hoststart::card_room();
     let mut x = hostlist::vector_room();
-    match start(card, vector, &mut words, &mut x) {
+    match hoststart::start(card, vector, &mut words, &mut x) {
         Answer::Refused(rule, position) => refusal(rule, position),
         Answer::Accepted(c) => {
             let g = graph as usize;
@@ -269,9 +200,9 @@ pub extern "C" fn card_critical_nodes(card: &[u8], vector: &[u8], nodes: &mut [u
     ensures { λ r. ⌜ (r ≡ criticalAnswer (now (card .entry)) (now (vector .entry)) (now (nodes .entry)))
         × (now (nodes .exit) ≡ criticalBuffer (now (card .entry)) (now (vector .entry)) (now (nodes .entry))) ⌝ }
 {
-    let mut words = card_room();
+    let mut words = hoststart::card_room();
     let mut x = hostlist::vector_room();
-    match start(card, vector, &mut words, &mut x) {
+    match hoststart::start(card, vector, &mut words, &mut x) {
         Answer::Refused(rule, position) => refusal(rule, position),
         Answer::Accepted(c) => {
             if nodes.len() / 4 < c.nodes {
@@ -300,8 +231,8 @@ fn grading(drops: bool, card: &[u8], list: &[u8], out: &mut [u8]) -> u64
     ensures { λ r. ⌜ (r ≡ gradeAnswer (now (card .entry)) (now (list .entry)) (now (out .entry)))
         × (now (out .exit) ≡ gradingBuffer drops (now (card .entry)) (now (list .entry)) (now (out .entry))) ⌝ }
 {
-    let mut words = card_room();
-    match start_list(card, list, &mut words) {
+    let mut words = hoststart::card_room();
+    match hoststart::start_list(card, list, &mut words) {
         Answer::Refused(rule, position) => refusal(rule, position),
         Answer::Accepted(c) => {
             if out.len() / 4 < c.faults {

@@ -1,6 +1,7 @@
 -- `cardhost::card_change_list` meets its contract. Assumes nothing.
 use Rattle.cardhost.proofs.card_change_list.Tie as tie
-use Rattle.cardhost.proofs.Laws.{vector-start-low, host-stops, host-breaks, host-done, changeCall, change-high, change-short, change-fit, holds-slice, worker-asks}
+use Rattle.hoststart.proofs.Laws.{vector-start-low, holds-slice, worker-asks}
+use Rattle.cardhost.proofs.Laws.{host-stops, host-breaks, host-done, changeCall, change-high, change-short, change-fit}
 use Rattle.cardhost.proofs.card_change_list.Statement.{statement}
 use borrow.Author.Needs.{needs}
 use mathlib.Core.Path.{sym, _∙_}

@@ -1,6 +1,7 @@
 -- `cardhost::card_check` meets its contract. Assumes nothing.
 use Rattle.cardhost.proofs.card_check.Tie as tie
-use Rattle.cardhost.proofs.Laws.{host-accepts, few-observable, card-low, check-refused, check-room, check-done}
+use Rattle.hoststart.proofs.Laws.{host-accepts, few-observable, card-low}
+use Rattle.cardhost.proofs.Laws.{check-refused, check-room, check-done}
 use Rattle.cardhost.proofs.card_check.Statement.{statement}
 use borrow.Author.Needs.{needs}
 use mathlib.Core.Path.{sym, _∙_}

@@ -1,6 +1,7 @@
 -- `cardhost::card_critical_nodes` meets its contract. Assumes nothing.
 use Rattle.cardhost.proofs.card_critical_nodes.Tie as tie
-use Rattle.cardhost.proofs.Laws.{vector-start-low, host-stops, host-breaks, host-done, criticalCall, critical-short, critical-fit, holds-slice, worker-asks}
+use Rattle.hoststart.proofs.Laws.{vector-start-low, holds-slice, worker-asks}
+use Rattle.cardhost.proofs.Laws.{host-stops, host-breaks, host-done, criticalCall, critical-short, critical-fit}
 use Rattle.cardhost.proofs.card_critical_nodes.Statement.{statement}
 use borrow.Author.Needs.{needs}
 use mathlib.Core.Path.{refl, sym, _∙_}

@@ -1,7 +1,8 @@
 -- `cardhost::grading` meets its contract. Assumes nothing.
 use Rattle.cardhost.proofs.grading.Tie as tie
 use Rattle.cardhost.proofs.Gradings.{gradeCall, grade-short, grade-fit, grading-asks}
-use Rattle.cardhost.proofs.Laws.{list-start-low, host-stops, host-breaks, host-done, holds-slice}
+use Rattle.hoststart.proofs.Laws.{list-start-low, holds-slice}
+use Rattle.cardhost.proofs.Laws.{host-stops, host-breaks, host-done}
 use Rattle.cardhost.proofs.grading.Statement.{statement}
 use borrow.Author.Needs.{needs}
 use mathlib.Core.Path.{sym, _∙_}

@@ -1,6 +1,7 @@
 -- `cardhost::values_with` meets its contract. Assumes nothing.
 use Rattle.cardhost.proofs.values_with.Tie as tie
-use Rattle.cardhost.proofs.Laws.{vector-start-low, host-stops, host-breaks, host-done, valuesCall, values-high, values-short, values-fit, holds-slice, worker-asks}
+use Rattle.hoststart.proofs.Laws.{vector-start-low, holds-slice, worker-asks}
+use Rattle.cardhost.proofs.Laws.{host-stops, host-breaks, host-done, valuesCall, values-high, values-short, values-fit}
 use Rattle.cardhost.proofs.values_with.Statement.{statement}
 use borrow.Author.Needs.{needs}
 use mathlib.Core.Path.{refl, sym, _∙_}

@@ -1,7 +1,7 @@
--- `cardhost::start` meets its contract. Assumes nothing.
-use Rattle.cardhost.proofs.start.Tie as tie
-use Rattle.cardhost.proofs.Laws.{host-accepts, card-short, start-refused, start-broken, start-goes, refused-accepted}
-use Rattle.cardhost.proofs.start.Statement.{statement}
+-- `hoststart::start` meets its contract. Assumes nothing.
+use Rattle.hoststart.proofs.start.Tie as tie
+use Rattle.hoststart.proofs.Laws.{host-accepts, card-short, start-refused, start-broken, start-goes, refused-accepted}
+use Rattle.hoststart.proofs.start.Statement.{statement}
 use borrow.Author.Needs.{needs}
 use mathlib.Core.Path.{sym, _∙_}
 use native.Mathlib.Omega.{arith}

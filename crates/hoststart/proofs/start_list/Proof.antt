@@ -1,7 +1,7 @@
--- `cardhost::start_list` meets its contract. Assumes nothing.
-use Rattle.cardhost.proofs.start_list.Tie as tie
-use Rattle.cardhost.proofs.Laws.{host-accepts, card-short, start-refused, start-broken, start-goes, refused-accepted}
-use Rattle.cardhost.proofs.start_list.Statement.{statement}
+-- `hoststart::start_list` meets its contract. Assumes nothing.
+use Rattle.hoststart.proofs.start_list.Tie as tie
+use Rattle.hoststart.proofs.Laws.{host-accepts, card-short, start-refused, start-broken, start-goes, refused-accepted}
+use Rattle.hoststart.proofs.start_list.Statement.{statement}
 use borrow.Author.Needs.{needs}
 use mathlib.Core.Path.{sym, _∙_}
 use native.Mathlib.Omega.{arith}

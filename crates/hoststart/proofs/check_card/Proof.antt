@@ -1,7 +1,7 @@
--- `cardhost::check_card` meets its contract. Assumes nothing.
-use Rattle.cardhost.proofs.check_card.Tie as tie
-use Rattle.cardhost.proofs.Laws.{card-long, card-checked, holds-front}
-use Rattle.cardhost.proofs.check_card.Statement.{statement}
+-- `hoststart::check_card` meets its contract. Assumes nothing.
+use Rattle.hoststart.proofs.check_card.Tie as tie
+use Rattle.hoststart.proofs.Laws.{card-long, card-checked, holds-front}
+use Rattle.hoststart.proofs.check_card.Statement.{statement}
 use borrow.Author.Needs.{needs}
 use lib.Seq.{length-take-le}
 use mathlib.Core.Path.{sym}

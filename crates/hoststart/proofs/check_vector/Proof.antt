@@ -1,8 +1,8 @@
--- `cardhost::check_vector` meets its contract. Assumes nothing.
-use Rattle.cardhost.proofs.check_vector.Tie as tie
+-- `hoststart::check_vector` meets its contract. Assumes nothing.
+use Rattle.hoststart.proofs.check_vector.Tie as tie
 use Rattle.hostlist.proofs.Form.{form-leftover}
-use Rattle.cardhost.proofs.Laws.{vector-too-long, vector-checked, holds-front}
-use Rattle.cardhost.proofs.check_vector.Statement.{statement}
+use Rattle.hoststart.proofs.Laws.{vector-too-long, vector-checked, holds-front}
+use Rattle.hoststart.proofs.check_vector.Statement.{statement}
 use Rattle.form.proofs.Verdicts.{not-sound}
 use borrow.Author.Needs.{needs}
 use lib.Seq.{length-take-le}

@@ -1,8 +1,7 @@
--- How a call with vectors starts: the card's check, then the vectors' form; and either grading. No contract of a call cites these. Assumes nothing.
+-- How a call with vectors starts: the card's check, then the vectors' form. No contract of a call cites these. Assumes nothing.
 use Prim.Native.Nat.{ℕ, _/_, _≤_}
 use mathlib.Core.Path.{_≡_}
 use mathlib.Core.List.{List}
-use mathlib.Core.Bool.{Bool}
 use lib.ListN.{length, take}
 use Rattle.words.specs.Bytes.{wordsOf}
 use Rattle.form.specs.declared.Counts.{Counts}
@@ -11,12 +10,8 @@ use Rattle.form.specs.declared.Answer.{Answer}
 use Rattle.form.specs.declared.Answer.the-variants.{Accepted, Refused}
 use Rattle.form.specs.Check.{onward}
 use Rattle.vectors.specs.Vectors.{vectorVerdict}
-use Rattle.form.specs.Calls.{written}
-use Rattle.lists.specs.Tables.{tab}
-use Rattle.grade.specs.Calls.{gradeTests}
-use Rattle.grade.specs.Graded.{graded}
 use Rattle.hostlist.specs.Form.{hostForm}
-use Rattle.cardhost.specs.Calls.{hostCheck, hostTests, asBytes, room}
+use Rattle.hoststart.specs.Check.{hostCheck}
 
 abbrev pub startedBy : Answer → (Counts → Verdict) → Answer
 startedBy (Accepted c) form = onward (form c) (Accepted c)
@@ -40,9 +35,3 @@ pub record Started (verdict : ℕ → List ℕ → Verdict) (card v words : List
 pub record StartedOne (card v words x : List ℕ) (r : Answer) : Type 0 where
   pub start : Started vectorVerdict card v words r
   pub vector-in : (c : Counts) → r ≡ Accepted c → Holds v x
-
--- the buffer after either grading, by whether a fault is dropped once marked
-abbrev pub gradingBuffer : Bool → List ℕ → List ℕ → List ℕ → List ℕ
-gradingBuffer drops card v b =
-    written (hostCheck card) (hostTests v (λ x. gradeTests x (room b)))
-    (λ c. asBytes (tab (graded drops (wordsOf card) c (wordsOf v)) (c .faults)) b) b

@@ -1,0 +1,3 @@
+-- Where refusals stand, and the start of a call.
+mod Positions
+pub mod Laws
