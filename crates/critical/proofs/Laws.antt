@@ -192,9 +192,6 @@ module _ {ws x firsts highs places : List ℕ} {c : Counts} (y : Grounds ws c fi
           })
 
 -- where it goes on after h
-pub next-one : {n h before low : ℕ} → h < n → Next n h before low (h + 1)
-next-one l = record { above = omega arith; inside = omega arith; past = λ i a b m. absurd (omega arith) }
-
 pub next-far : {n h before low r : ℕ} → before ≤ h + 1 → From n h low r → Next n h before low r
 next-far {n} {h} {before} {low} {r} l f = record {
   above = f .above;

@@ -27,9 +27,6 @@ or-false false b e = (refl, e)
 pub and-none : (a : Bool) {p : Bool} → p ≡ false → a && p ≡ false
 and-none a e = ap (a &&_) e ∙ and-false a
 
-pub none-and : (p q : Bool) {a : Bool} → a ≡ false → a && p ≡ a && q
-none-and p q e = ap (_&& p) e ∙ sym (ap (_&& q) e)
-
 pub and-all : (a : Bool) {p : Bool} → p ≡ true → a && p ≡ a
 and-all a e = ap (a &&_) e ∙ and-true a
 

@@ -3,4 +3,3 @@ pub mod Meets
 pub mod Changes
 pub mod Faults
 pub mod Told
-pub mod Fast
