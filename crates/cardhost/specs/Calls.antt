@@ -1,6 +1,6 @@
 -- The calls of the fixture's host: document 01, 'Calls'. A card, a vector and a buffer are bytes, each word four of them, highest byte first; the answer is
 -- one 64-bit number. Each call is told by the definitions of the call on words, over the words that the bytes hold. Assumes nothing.
-use Prim.Native.Nat.{ℕ, _+_, _*_, _/_, _%_}
+use Prim.Native.Nat.{ℕ, _+_, _*_, _/_}
 use mathlib.Core.List.{List, [], _∷_}
 use lib.ListN.{length}
 use lib.Dec.{ltb}
@@ -9,11 +9,10 @@ use Rattle.lists.specs.Tables.{tab, over, chosen}
 use Rattle.words.specs.Bytes.{wordsOf, byteOf}
 use Rattle.form.specs.declared.Counts.{Counts}
 use Rattle.form.specs.declared.Verdict.{Verdict}
-use Rattle.form.specs.declared.Answer.{Answer}
 use Rattle.form.specs.declared.Answer.the-variants as answer
 use Rattle.form.specs.declared.Reply.{Reply}
 use Rattle.form.specs.declared.Reply.the-variants as reply
-use Rattle.form.specs.declared.Rule.the-variants.{VectorForm, BufferTooShort}
+use Rattle.form.specs.declared.Rule.the-variants.{BufferTooShort}
 use Rattle.form.specs.Answers.{numberOf, valuesOf}
 use Rattle.form.specs.Check.{test, firstBroken, andThen}
 use Rattle.form.specs.Calls.{replied, written}

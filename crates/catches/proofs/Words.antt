@@ -12,7 +12,7 @@ use Rattle.form.specs.Shape.{Shape}
 use Rattle.form.proofs.Places.{apart, first-few}
 use Rattle.value.specs.Run.{run, Ready}
 use Rattle.value.proofs.Values.{node-below}
-use Rattle.sweep.proofs.Laws.{size-is}
+use Rattle.value.proofs.Run.{size-is}
 use Rattle.catches.specs.Caught.{caughtAt}
 use Rattle.catches.specs.Told.{Told, wordAt}
 use Rattle.catches.specs.Words.{Blank, Along, Written}

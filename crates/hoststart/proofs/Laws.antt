@@ -7,7 +7,6 @@ use lib.ListN.{length, take}
 use lib.Dec.{ltb}
 use borrow.Author.Tests.{lt-ltb, ne-eqb}
 use Rattle.lists.specs.Tables.{over, front}
-use Rattle.lists.proofs.Counting.{count-le}
 use Rattle.lists.proofs.Tables.{length-tab, length-over, over-front}
 use Rattle.words.specs.Bytes.{wordAt, wordsOf}
 use Rattle.form.specs.declared.Rule.{Rule}
@@ -19,7 +18,6 @@ use Rattle.form.specs.declared.Answer.{Answer}
 use Rattle.form.specs.declared.Answer.the-variants.{Accepted, Refused}
 use Rattle.form.specs.declared.Reply.the-variants as reply
 use Rattle.form.specs.Check.{test, andThen, onward, checkedWith}
-use Rattle.form.specs.Layout.{observable}
 use Rattle.form.specs.Shape.{Shape, Accepts}
 use Rattle.form.proofs.Checked.{check-accepts}
 use Rattle.form.proofs.Verdicts.{then-sound}
@@ -55,9 +53,6 @@ card-checked card words k e h q = rw (← h .front, ← e) q
 pub host-accepts : (card : List ℕ) {c : Counts} → hostCheck card ≡ Accepted c → Accepts (wordsOf card) c
 unfolding hostCheck
 host-accepts card e = check-accepts _ _ _ e
-
-pub few-observable : (ws : List ℕ) {c : Counts} → Shape ws c → c .observable ≤ 1024
-few-observable ws {c} s = omega (arith, s .seen, count-le (observable ws) (c .graphs), s .few-graphs)
 
 pub refused-accepted : {r : Rule} {p : ℕ} {c : Counts} → Refused r p ≡ Accepted c → ⊥
 refused-accepted e = let z : _≡_ {A = ℕ} 0 1 = cc in omega arith

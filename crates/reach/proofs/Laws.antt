@@ -3,19 +3,32 @@ use Prim.Native.Nat.{ℕ, _+_, _<_, _≤_}
 use mathlib.Core.Path.{_≡_, sym, ap, _∙_}
 use mathlib.Core.List.{List, []}
 use native.Mathlib.Omega.{arith}
-use native.Mathlib.Numerals.{add-one}
 use native.Mathlib.Decide.{ℕ-discrete}
 use lib.ListN.{length, getD, set, length-set}
 use lib.Seq.{getD-set-same, getD-set-other}
 use Rattle.lists.specs.Tables.{tab, over, always}
-use Rattle.lists.proofs.Tables.{length-tab, length-over}
+use Rattle.lists.proofs.Tables.{length-tab, over-at, length-over}
 use Rattle.form.specs.declared.Counts.{Counts}
 use Rattle.form.specs.Layout.{first, size, reads}
-use Rattle.form.proofs.Places.{first-next}
+use Rattle.form.specs.Shape.{Shape}
 use Rattle.vectors.specs.Vectors.{width}
 use Rattle.vectors.proofs.Laws.{holds}
 use Rattle.value.specs.Run.{run, Ready}
 use Rattle.reach.specs.Reach.{Placed, Noted, Reach}
+
+-- a card's tables: as they are made, and for any vector of its width
+pub made-placed : {ws firsts : List ℕ} {c : Counts} (ys : List ℕ) → Shape ws c → c .graphs < length ys → firsts ≡ over (c .graphs + 1) (first ws) ys → Placed ws c firsts
+made-placed {ws} {firsts} {c} ys s l e = record {
+  shape = s;
+  long = rw e (rw (length-over (first ws) ys (c .graphs + 1) (omega arith)) l);
+  table = λ g h. rw e (over-at (first ws) ys (c .graphs + 1) g (omega arith));
+}
+
+pub placed : {ws x firsts : List ℕ} {c : Counts} → Ready (run ws c [] x) firsts → Placed ws c firsts
+placed y = record { shape = y .shape; long = y .long; table = y .table }
+
+pub ready-for : {ws firsts x : List ℕ} {c : Counts} → Placed ws c firsts → width (c .inputs) ≤ length x → Ready (run ws c [] x) firsts
+ready-for {ws} {firsts} {x} {c} p w = record { shape = p .shape; long = p .long; table = p .table; wide = λ g h. holds (c .inputs) x g w h }
 
 module _ {ws firsts : List ℕ} {c : Counts} (p : Placed ws c firsts) where
   -- a vector of zeros: the laws of places ask for some vector, and any will do
@@ -23,16 +36,7 @@ module _ {ws firsts : List ℕ} {c : Counts} (p : Placed ws c firsts) where
   zeros = tab (λ i. 0) (width (c .inputs))
 
   pub ready : Ready (run ws c [] zeros) firsts
-  ready = record {
-    shape = p .shape;
-    long = p .long;
-    table = p .table;
-    wide = λ g h. holds (c .inputs) zeros g (omega (arith, length-tab (λ i. 0) (width (c .inputs)))) h;
-  }
-
-  -- the number of nodes of graph h, as the table gives it
-  pub size-is : {h f n : ℕ} → h < c .graphs → f ≡ getD firsts h 0 → n ≡ getD firsts (h + 1) 0 → n ≡ f + size ws h
-  size-is {h} l e u = u ∙ p .table (h + 1) (omega arith) ∙ ap (first ws) (add-one h) ∙ first-next ws h ∙ ap (_+ size ws h) (sym (e ∙ p .table h (omega arith)))
+  ready = ready-for p (omega (arith, length-tab (λ i. 0) (width (c .inputs))))
 
 -- no reader is noted yet
 pub none-noted : {ws : List ℕ} {c : Counts} (a b : ℕ) (xs ys : List ℕ) {lows highs : List ℕ} → c .graphs ≤ length xs → c .graphs ≤ length ys

@@ -1,18 +1,19 @@
 -- Graphs all of whose faults are marked. Assumes nothing.
-use Prim.Native.Nat.{ℕ, suc, _+_, _*_, _<_, _≤_}
+use Prim.Native.Nat.{ℕ, _+_, _*_, _<_, _≤_}
 use mathlib.Core.Path.{_≡_, refl, sym, ap, _∙_}
 use mathlib.Core.List.{List}
 use mathlib.Core.Bool.{Bool, true, false, false≢true}
 use native.Mathlib.Omega.{arith}
 use native.Mathlib.Decide.{ℕ-discrete}
-use native.Mathlib.Numerals.{add-one}
 use lib.ListN.{length, getD, set}
-use lib.Seq.{getD-set-same, getD-set-other}
+use lib.Seq.{getD-set-other}
 use Rattle.form.specs.declared.Counts.{Counts}
 use Rattle.form.specs.Layout.{first, size}
-use Rattle.form.proofs.Places.{first-next, first-few}
+use Rattle.form.proofs.Places.{first-few}
+use Rattle.value.proofs.Run.{size-is}
+use Rattle.reach.proofs.Laws.{ready}
 use Rattle.reach.specs.Reach.{Placed}
-use Rattle.running.specs.Running.{AllMarked, Dropped, Idle}
+use Rattle.running.specs.Running.{AllMarked, Idle}
 
 module _ {xs : List ℕ} {low : ℕ} where
   pub marked-none : AllMarked true xs low low
@@ -36,9 +37,9 @@ module _ {ws firsts : List ℕ} {c : Counts} (y : Placed ws c firsts) {g : ℕ} 
   -- the words of a graph's nodes, as the table gives their places
   pub graph-ends : {a b : ℕ} → a ≡ getD firsts g 0 → b ≡ getD firsts (g + 1) 0 → (a ≡ first ws g) × (b ≡ first ws g + size ws g) × (b ≤ c .nodes)
   graph-ends {a} {b} p q =
-      let e : b ≡ first ws (g + 1) = q ∙ y .table (g + 1) (omega arith) in
-      let n : first ws (g + 1) ≡ first ws g + size ws g = rw (add-one g) (first-next ws g) in
-      (p ∙ y .table g (omega arith), e ∙ n, rw e (first-few (y .shape) (g + 1) (omega arith)))
+      let e : a ≡ first ws g = p ∙ y .table g (omega arith) in
+      let n = size-is (ready y) h p q in
+      (e, n ∙ ap (_+ size ws g) e, rw (q ∙ y .table (g + 1) (omega arith)) (first-few (y .shape) (g + 1) (omega arith)))
 
   pub graph-dropped : {a b o : ℕ} {p q : Bool} {xs live live′ : List ℕ} → a ≡ getD firsts g 0 → b ≡ getD firsts (g + 1) 0 → o ≡ 2 * (c .nodes + g)
       → AllMarked p xs (2 * a) (2 * b) → p ≡ true → AllMarked q xs o (o + 2) → q ≡ true → g < length live → Idle true ws c live xs → live′ ≡ set live g 0

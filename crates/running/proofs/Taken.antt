@@ -1,7 +1,7 @@
 -- One vector taken in. For both gradings. Assumes nothing.
 use Prim.Native.Nat.{ℕ, zero, suc, _+_, _*_, _-_, _/_, _%_, _<_, _≤_}
 use mathlib.Core.Path.{_≡_, refl, sym, ap, _∙_}
-use mathlib.Core.List.{List, []}
+use mathlib.Core.List.{List}
 use mathlib.Core.Bool.{Bool, true, false, not, _&&_, true≢false}
 use native.Mathlib.Omega.{arith}
 use native.Mathlib.Decide.{ℕ-discrete, decLt}
@@ -9,16 +9,10 @@ use lib.ListN.{length, getD}
 use lib.Dec.{eqb}
 use borrow.Author.Tests.{eq-eqb, ne-eqb}
 use Rattle.lists.specs.Counting.{choose}
-use Rattle.lists.specs.Tables.{over}
-use Rattle.lists.proofs.Tables.{over-at, length-over}
-use Rattle.vectors.specs.Vectors.{width}
-use Rattle.vectors.proofs.Laws.{holds}
 use Rattle.form.specs.declared.Counts.{Counts}
 use Rattle.form.specs.Layout.{first, size, reads}
 use Rattle.form.specs.Shape.{Shape}
 use Rattle.value.specs.Values.{decision}
-use Rattle.value.specs.Run.{run, Ready}
-use Rattle.reach.specs.Reach.{Placed}
 use Rattle.detect.specs.Detects.{goodValue, standsIn, detects}
 use Rattle.detect.proofs.Places.{owner}
 use Rattle.rules.specs.Rules.{critical, criticalNode}
@@ -26,37 +20,34 @@ use Rattle.rules.proofs.Changes.{good-bit}
 use Rattle.rules.proofs.Faults.{decides-bit}
 use Rattle.rules.proofs.Told.{graph-told, node-told}
 use Rattle.catches.specs.Caught.{caughtAt}
+use Rattle.catches.proofs.Caught.{node-caught, graph-caught}
 use Rattle.catches.specs.Told.{wordAt, Told, Room}
 use Rattle.value.proofs.Values.{node-below}
-use Rattle.running.specs.declared.Running.{Running}
 use Rattle.running.specs.Running.{after, found, Folded, Small, Dropped, Idle, Standing, Taken}
 use Rattle.running.proofs.Fold.{keeps}
 
--- of a critical place the fault at the opposite of its value v is caught, of any other neither
-one-caught : (b : Bool) (v d : ℕ) → v < 2 → d < 2 → eqb (choose (b && not (eqb 0 v)) 0 (choose (b && not (eqb 1 v)) 1 2)) d ≡ b && not (eqb d v)
-one-caught true zero zero h l = refl
-one-caught true zero (suc zero) h l = refl
-one-caught true zero (suc (suc d)) h l = absurd (omega arith)
-one-caught true (suc zero) zero h l = refl
-one-caught true (suc zero) (suc zero) h l = refl
-one-caught true (suc zero) (suc (suc d)) h l = absurd (omega arith)
-one-caught true (suc (suc v)) d h l = absurd (omega arith)
-one-caught false v d h l = ne-eqb 2 d (λ e. omega arith)
+-- the fault stuck at d is caught where a place of value v is critical and d the opposite
+opposite-is : (b : Bool) (v d : ℕ) → v < 2 → d < 2 → eqb (choose b (1 - v) 2) d ≡ b && not (eqb d v)
+opposite-is true zero zero h l = refl
+opposite-is true zero (suc zero) h l = refl
+opposite-is true zero (suc (suc d)) h l = absurd (omega arith)
+opposite-is true (suc zero) zero h l = refl
+opposite-is true (suc zero) (suc zero) h l = refl
+opposite-is true (suc zero) (suc (suc d)) h l = absurd (omega arith)
+opposite-is true (suc (suc v)) d h l = absurd (omega arith)
+opposite-is false v d h l = ne-eqb 2 d (λ e. omega arith)
 
 module _ {ws : List ℕ} {c : Counts} (a : Shape ws c) (x : List ℕ) where
   -- what is told of a place tells of both its faults
   node-detects : (g k d : ℕ) → g < c .graphs → k < size ws g → d < 2 → eqb (caughtAt ws c x (first ws g + k)) d ≡ detects ws c x (2 * (first ws g + k) + d)
-  unfolding caughtAt
   node-detects g k d h l b =
       let v = decides-bit ws g k _ (good-bit a x (reads ws g k) (omega (arith, a .reads-lower g h k l))) in
-      rw (node-told a x g k 0 h l (omega arith), node-told a x g k 1 h l (omega arith), node-told a x g k d h l b)
-      (one-caught (criticalNode ws c x g k) (decision ws (goodValue ws c x) g k) d v b)
+      rw (node-caught a x g k h l v, node-told a x g k d h l b) (opposite-is (criticalNode ws c x g k) (decision ws (goodValue ws c x) g k) d v b)
 
   graph-detects : (g d : ℕ) → g < c .graphs → d < 2 → eqb (caughtAt ws c x (c .nodes + g)) d ≡ detects ws c x (2 * (c .nodes + g) + d)
-  unfolding caughtAt
   graph-detects g d h b =
-      rw (graph-told a x g 0 h (omega arith), graph-told a x g 1 h (omega arith), graph-told a x g d h b)
-      (one-caught (critical ws c x g) (goodValue ws c x g) d (good-bit a x g h) b)
+      let v = good-bit a x g h in
+      rw (graph-caught a x g h v, graph-told a x g d h b) (opposite-is (critical ws c x g) (goodValue ws c x g) d v b)
 
   -- the word of a fault at place p of graph g, by the word of the place; a graph that is left out has dropped both
   stepped : (drops : Bool) (t : ℕ) (live xs ys : List ℕ) (g p d : ℕ) → d < 2 → eqb (caughtAt ws c x p) d ≡ detects ws c x (2 * p + d)
@@ -140,9 +131,6 @@ module _ {drops : Bool} {ws x xs ys : List ℕ} {c : Counts} {t : ℕ} (a : Shap
 pub all-places : {ws : List ℕ} {c : Counts} → Shape ws c → 2 * (c .nodes + c .graphs) ≡ c .faults
 all-places a = omega (arith, a .all-faults)
 
-pub placed : {ws x firsts : List ℕ} {c : Counts} → Ready (run ws c [] x) firsts → Placed ws c firsts
-placed y = record { shape = y .shape; long = y .long; table = y .table }
-
 -- the result after one vector stands as the one before it did
 pub standing-next : {drops : Bool} {ws x xs ys live′ : List ℕ} {c : Counts} {t m : ℕ} → Shape ws c → Taken drops ws c x t xs ys → Small drops t 0 (c .faults) xs
     → c .faults ≤ length ys → m ≡ found drops ys (2 * (c .nodes + c .graphs)) → Idle drops ws c live′ ys
@@ -154,17 +142,7 @@ standing-next {drops} {ws} {x} {xs} {ys} {live′} {c} {t} {m} a s w l e i = rec
   idle = i;
 }
 
--- the card's tables, for any vector of its width
-pub made-placed : {ws firsts : List ℕ} {c : Counts} (ys : List ℕ) → Shape ws c → c .graphs < length ys → firsts ≡ over (c .graphs + 1) (first ws) ys → Placed ws c firsts
-made-placed {ws} {firsts} {c} ys s l e = record {
-  shape = s;
-  long = rw e (rw (length-over (first ws) ys (c .graphs + 1) (omega arith)) l);
-  table = λ g h. rw e (over-at (first ws) ys (c .graphs + 1) g (omega arith));
-}
-
-pub ready-for : {ws firsts x : List ℕ} {c : Counts} → Placed ws c firsts → width (c .inputs) ≤ length x → Ready (run ws c [] x) firsts
-ready-for {ws} {firsts} {x} {c} y w = record { shape = y .shape; long = y .long; table = y .table; wide = λ g h. holds (c .inputs) x g w h }
-
+-- room that keeps its lengths
 pub room-kept : {c : Counts} {l p f k l′ p′ f′ k′ : List ℕ} → Room c l p f k → length l′ ≡ length l → length p′ ≡ length p → length f′ ≡ length f → length k′ ≡ length k
     → Room c l′ p′ f′ k′
 room-kept s a b d e = record {

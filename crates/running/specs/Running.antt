@@ -9,7 +9,6 @@ use Rattle.lists.specs.Counting.{choose, count}
 use Rattle.lists.specs.Tables.{over, always}
 use Rattle.form.specs.declared.Counts.{Counts}
 use Rattle.form.specs.Layout.{first, size}
-use Rattle.form.specs.Shape.{Shape}
 use Rattle.detect.specs.Detects.{detects}
 use Rattle.reach.specs.Reach.{Placed, Reach}
 use Rattle.running.specs.declared.Running.{Running}
@@ -29,7 +28,7 @@ abbrev pub after : Bool → ℕ → Bool → ℕ → ℕ
 after drops t true w = caughtWord drops t w
 after drops t false w = w
 
--- the words of a buffer, where the place p has the word d: fault 2p + d is caught there, or none
+-- a buffer with w stored for fault f, where one is to be
 abbrev pub putIf : Bool → List ℕ → ℕ → ℕ → List ℕ
 putIf true xs f w = set xs f w
 putIf false xs f w = xs

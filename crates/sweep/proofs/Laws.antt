@@ -3,14 +3,13 @@ use Prim.Native.Nat.{ℕ, zero, suc, _+_, _-_, _*_, _<_, _≤_}
 use mathlib.Core.Path.{_≡_, refl, sym, ap, _∙_}
 use mathlib.Core.List.{List, []}
 use native.Mathlib.Omega.{arith}
-use native.Mathlib.Numerals.{add-one}
 use native.Mathlib.Decide.{ℕ-discrete, decLt}
 use lib.ListN.{length, getD, set, length-set}
 use lib.Seq.{getD-set-same, getD-set-other}
 use Rattle.words.specs.Fields.{readGraph}
 use Rattle.form.specs.declared.Counts.{Counts}
 use Rattle.form.specs.Layout.{first, size, exits}
-use Rattle.form.proofs.Places.{first-next, apart}
+use Rattle.form.proofs.Places.{apart}
 use Rattle.vectors.specs.Vectors.{bit}
 use Rattle.value.specs.Settings.{good, faulty}
 use Rattle.value.specs.Values.{follow, decides, value, nodeValue}
@@ -89,10 +88,6 @@ module _ {ws : List ℕ} {c : Counts} {x firsts : List ℕ} (y : Ready (run ws c
           })
 
   module _ {g : ℕ} (h : g < c .graphs) where
-    -- the number of its nodes, as the table gives it
-    pub size-is : {f n : ℕ} → f ≡ getD firsts g 0 → n ≡ getD firsts (g + 1) 0 → n ≡ f + size ws g
-    size-is e u = u ∙ y .table (g + 1) (omega arith) ∙ ap (first ws) (add-one g) ∙ first-next ws g ∙ ap (_+ size ws g) (sym (e ∙ y .table g (omega arith)))
-
     -- THE GRAPH'S STORE, where the values of its nodes are there
     pub graph-stored : {v : ℕ} {xs ys : List ℕ} → Partly ws c x g 0 xs → v ≡ value ws c good x g → ys ≡ set xs (c .nodes + g) v → Swept ws c x (g + 1) ys
     graph-stored {v} {xs} p e o =

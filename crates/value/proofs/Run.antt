@@ -3,6 +3,7 @@ use Prim.Native.Nat.{ℕ, zero, suc, _+_, _-_, _*_, _<_, _≤_}
 use mathlib.Core.Path.{_≡_, refl, sym, ap, _∙_}
 use mathlib.Core.List.{List}
 use native.Mathlib.Omega.{arith}
+use native.Mathlib.Numerals.{add-one}
 use lib.ListN.{length, getD}
 use Rattle.words.specs.Fields.{readGraph, exitOf}
 use Rattle.lists.specs.Tables.{over}
@@ -63,6 +64,11 @@ module _ {t : Run} {firsts : List ℕ} (y : Ready t firsts) where
       node-goes b = node-onward (y .shape) (faulty (t .faults)) (t .vector) g k x h l taken-is b
 
   module _ {g : ℕ} (h : g < t .counts .graphs) where
+    -- the number of its nodes, as the table gives it
+    pub size-is : {f n : ℕ} → f ≡ getD firsts g 0 → n ≡ getD firsts (g + 1) 0 → n ≡ f + size (t .card) g
+    size-is e u =
+        u ∙ y .table (g + 1) (omega arith) ∙ ap (first (t .card)) (add-one g) ∙ first-next (t .card) g ∙ ap (_+ size (t .card) g) (sym (e ∙ y .table g (omega arith)))
+
     pub some-node : t .counts .inputs ≤ g → 0 < size (t .card) g
     some-node i = y .shape .output g h i .1
 

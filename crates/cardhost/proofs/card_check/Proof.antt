@@ -1,6 +1,7 @@
 -- `cardhost::card_check` meets its contract. Assumes nothing.
 use Rattle.cardhost.proofs.card_check.Tie as tie
-use Rattle.hoststart.proofs.Laws.{host-accepts, few-observable, card-low}
+use Rattle.form.proofs.Checked.{few-observable}
+use Rattle.hoststart.proofs.Laws.{host-accepts, card-low}
 use Rattle.cardhost.proofs.Laws.{check-refused, check-room, check-done}
 use Rattle.cardhost.proofs.card_check.Statement.{statement}
 use borrow.Author.Needs.{needs}
@@ -18,7 +19,7 @@ returns c =
 numbers-of-requires : tie.Need-numbers-of-requires
 numbers-of-requires c κs =
     let s = host-accepts _ (sym (c .before .before .before .before .before .check-card .ensures .0) ∙ c .before .before .c .given .1) .shape in
-    omega (arith, s .inputs-in, s .few-graphs, s .few-nodes, s .all-faults, few-observable _ s)
+    omega (arith, s .inputs-in, s .few-graphs, s .few-nodes, s .all-faults, few-observable s)
 
 returns-2 : tie.Need-returns-2
 returns-2 c =

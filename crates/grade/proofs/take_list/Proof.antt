@@ -2,7 +2,8 @@
 use Rattle.grade.proofs.take_list.Tie as tie
 use Prim.Native.Nat.{_≤_, _-_}
 use Rattle.grade.proofs.Graded.{graded-next, graded-last, marked-last}
-use Rattle.running.proofs.Taken.{ready-for, room-kept}
+use Rattle.reach.proofs.Laws.{ready-for}
+use Rattle.running.proofs.Taken.{room-kept}
 use Rattle.grade.proofs.take_list.Statement.{statement}
 use Rattle.running.specs.Running.{Standing}
 use Rattle.grade.specs.Graded.{Graded}

@@ -2,7 +2,7 @@
 use Rattle.hostlist.proofs.take_vector.Tie as tie
 use Rattle.hostlist.proofs.Gradings.{few-inputs, few-words, vector-held, vector-long}
 use Rattle.hostlist.proofs.take_vector.Statement.{statement}
-use Rattle.running.proofs.Taken.{ready-for}
+use Rattle.reach.proofs.Laws.{ready-for}
 use borrow.Author.Needs.{needs}
 use lib.Seq.{length-take-le}
 use mathlib.Core.Path.{sym}

@@ -1,7 +1,8 @@
 -- `reach::note_graph` meets its contract. Assumes nothing.
 use Rattle.reach.proofs.note_graph.Tie as tie
 use Prim.Native.Nat.{_≤_, _-_}
-use Rattle.reach.proofs.Laws.{size-is, graph-noted}
+use Rattle.value.proofs.Run.{size-is}
+use Rattle.reach.proofs.Laws.{ready, graph-noted}
 use Rattle.reach.proofs.note_graph.Statement.{statement}
 use Rattle.reach.specs.Reach.{Noted}
 use borrow.Author.Needs.{needs}
@@ -29,7 +30,7 @@ first-node-requires-2 c κs =
 
 sub-n : tie.Need-sub-n Inv-loop μ-loop
 sub-n c =
-    let p = c .before .before .before .before .before .before .pre in omega (arith, size-is (p .0) (p .1) (c .before .first-node .ensures) (c .first-node2 .ensures))
+    let p = c .before .before .before .before .before .before .pre in omega (arith, size-is (ready (p .0)) (p .1) (c .before .first-node .ensures) (c .first-node2 .ensures))
 
 loop-holds : tie.Need-loop-holds Inv-loop μ-loop
 loop-holds c = (omega arith, refl, refl, c .before .before .before .before .before .before .pre .2)
@@ -37,7 +38,7 @@ loop-holds c = (omega arith, refl, refl, c .before .before .before .before .befo
 note-node-requires : tie.Need-note-node-requires Inv-loop μ-loop
 note-node-requires c κs =
     let p = c .before .before .before .before .before .before .before .before .before .before .pre in
-    (p .0, p .1, omega (arith, size-is (p .0) (p .1) (c .before .before .before .before .before .first-node .ensures) (c .before .before .before .before .first-node2 .ensures), c .before .before .loop-test .taken), c .before .before .before .loop .inv .3)
+    (p .0, p .1, omega (arith, size-is (ready (p .0)) (p .1) (c .before .before .before .before .before .first-node .ensures) (c .before .before .before .before .first-node2 .ensures), c .before .before .loop-test .taken), c .before .before .before .loop .inv .3)
 
 loop-again : tie.Need-loop-again Inv-loop μ-loop
 loop-again c = (omega (arith, c .before .before .before .before .before .before .before .loop-test .taken), search needs, search needs, c .before .before .before .before .note-node .ensures)
@@ -51,7 +52,7 @@ same-length-2 c = c .before .loop .inv .2
 returns : tie.Need-returns Inv-loop μ-loop
 returns c =
     let p = c .before .before .before .before .before .before .before .before .pre in
-    graph-noted (c .before .loop .inv .3) (omega (arith, size-is (p .0) (p .1) (c .before .before .before .first-node .ensures) (c .before .before .first-node2 .ensures), c .loop-test .left))
+    graph-noted (c .before .loop .inv .3) (omega (arith, size-is (ready (p .0)) (p .1) (c .before .before .before .first-node .ensures) (c .before .before .first-node2 .ensures), c .loop-test .left))
 
 pub note-graph-spec : {M : Type 1} → statement M
 note-graph-spec =

@@ -1,7 +1,7 @@
 -- `running::begin` meets its contract. Assumes nothing.
 use Rattle.running.proofs.begin.Tie as tie
 use Rattle.running.proofs.Started.{standing-first, blank-same}
-use Rattle.running.proofs.Taken.{made-placed}
+use Rattle.reach.proofs.Laws.{made-placed}
 use Rattle.running.proofs.begin.Statement.{statement}
 use borrow.Author.Needs.{needs}
 

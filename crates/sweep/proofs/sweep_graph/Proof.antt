@@ -1,7 +1,8 @@
 -- `sweep::sweep_graph` meets its contract. Assumes nothing.
 use native.Mathlib.Omega.{arith}
 use borrow.Author.Needs.{needs}
-use Rattle.sweep.proofs.Laws.{size-is, input-stored, entrance-inside, output-stored}
+use Rattle.value.proofs.Run.{size-is}
+use Rattle.sweep.proofs.Laws.{input-stored, entrance-inside, output-stored}
 use Rattle.sweep.proofs.sweep_graph.Statement.{statement}
 use Rattle.sweep.proofs.sweep_graph.Tie as tie
 

@@ -1,7 +1,8 @@
 -- `running::Running::take_in` meets its contract. Assumes nothing.
 use Rattle.running.proofs.Running.take_in.Tie as tie
 use Rattle.running.proofs.Running.take_in.Statement.{statement}
-use Rattle.running.proofs.Taken.{taken, idle-next, all-places, placed, standing-next}
+use Rattle.reach.proofs.Laws.{placed}
+use Rattle.running.proofs.Taken.{taken, idle-next, all-places, standing-next}
 use borrow.Author.Needs.{needs}
 use mathlib.Core.Path.{refl}
 use native.Mathlib.Omega.{arith}
