@@ -6,16 +6,15 @@ use mathlib.Core.Bool.{Bool, true, false, not, _&&_}
 use native.Mathlib.Omega.{arith}
 use lib.Dec.{eqb, ltb}
 use borrow.Author.Tests.{lt-ltb}
+use Rattle.layout.proofs.Firsts.{decides-bit}
 use Rattle.lists.specs.Counting.{choose}
-use Rattle.form.specs.declared.Counts.{Counts}
-use Rattle.form.specs.Layout.{first, size, reads}
-use Rattle.form.specs.Shape.{Shape}
-use Rattle.value.specs.Values.{decision}
+use Rattle.answers.specs.declared.Counts.{Counts}
+use Rattle.layout.specs.Layout.{first, size, reads, decision}
+use Rattle.layout.specs.Shape.{Shape}
 use Rattle.detect.specs.Detects.{goodValue, standsIn, criticalAt}
 use Rattle.detect.proofs.Places.{owner}
 use Rattle.rules.specs.Rules.{critical, criticalNode}
 use Rattle.rules.proofs.Changes.{good-bit}
-use Rattle.rules.proofs.Faults.{decides-bit}
 use Rattle.rules.proofs.Told.{graph-told, node-told, critical-told}
 use Rattle.catches.specs.Caught.{caughtAt}
 

@@ -5,9 +5,9 @@ use mathlib.Core.List.{List}
 use mathlib.Core.Bool.{Bool, true, false}
 use native.Mathlib.Omega.{arith}
 use borrow.Author.Tests.{ne-eqb}
-use Rattle.form.specs.declared.Counts.{Counts}
-use Rattle.form.specs.Layout.{size}
-use Rattle.form.specs.Shape.{Shape}
+use Rattle.answers.specs.declared.Counts.{Counts}
+use Rattle.layout.specs.Layout.{size}
+use Rattle.layout.specs.Shape.{Shape}
 use Rattle.value.specs.Settings.{good}
 use Rattle.value.specs.Values.{taken}
 use Rattle.value.proofs.Values.{taken-later}

@@ -4,16 +4,16 @@ use mathlib.Core.Path.{_≡_, _∙_}
 use mathlib.Core.List.{List}
 use native.Mathlib.Omega.{arith}
 use lib.ListN.{getD}
-use Rattle.form.specs.declared.Counts.{Counts}
-use Rattle.form.specs.Layout.{first}
-use Rattle.form.specs.Shape.{Shape}
+use Rattle.answers.specs.declared.Counts.{Counts}
+use Rattle.layout.specs.Layout.{first}
+use Rattle.layout.specs.Shape.{Shape}
 use Rattle.detect.specs.Detects.{standsIn}
 use Rattle.detect.proofs.Places.{owner}
 use Rattle.catches.specs.Caught.{caughtAt}
-use Rattle.catches.specs.Told.{Told, wordAt}
+use Rattle.catches.specs.Told.{Told, toldAt}
 
 module _ {ws : List ℕ} {c : Counts} (a : Shape ws c) {x live xs : List ℕ} (t : Told ws c x live (c .graphs) xs) (j : ℕ) (h : j < c .nodes) where
-  pub told-node : getD xs j 0 ≡ wordAt ws c x live (standsIn ws j (c .graphs)) j
+  pub told-node : getD xs j 0 ≡ toldAt ws c x live (standsIn ws j (c .graphs)) j
   told-node =
       let g = standsIn ws j (c .graphs) in
       let o = owner ws (c .graphs) j (rw (a .nodes-in) h) in

@@ -1,28 +1,27 @@
 -- How the words of one graph, and then of all graphs, come into the buffer. Assumes nothing.
 use Prim.Native.Nat.{ℕ, _+_, _-_, _<_, _≤_}
 use mathlib.Core.Path.{_≡_, refl, sym, _∙_}
-use mathlib.Core.List.{List, []}
+use mathlib.Core.List.{List}
 use native.Mathlib.Omega.{arith}
 use native.Mathlib.Decide.{ℕ-discrete, decLt}
 use lib.ListN.{length, getD, set, length-set}
 use lib.Seq.{getD-set-same, getD-set-other}
-use Rattle.form.specs.declared.Counts.{Counts}
-use Rattle.form.specs.Layout.{first, size}
-use Rattle.form.specs.Shape.{Shape}
-use Rattle.form.proofs.Places.{apart, first-few}
-use Rattle.value.specs.Run.{run, Ready}
-use Rattle.value.proofs.Values.{node-below}
-use Rattle.value.proofs.Run.{size-is}
+use Rattle.answers.specs.declared.Counts.{Counts}
+use Rattle.layout.specs.Layout.{first, size}
+use Rattle.layout.specs.Shape.{Shape}
+use Rattle.layout.proofs.Firsts.{apart, first-few, node-below}
+use Rattle.layout.specs.Tables.{Ready}
+use Rattle.layout.proofs.Places.{walkable, size-is}
 use Rattle.catches.specs.Caught.{caughtAt}
-use Rattle.catches.specs.Told.{Told, wordAt}
-use Rattle.catches.specs.Words.{Blank, Along, Written}
+use Rattle.catches.specs.Told.{Told, toldAt}
+use Rattle.catches.specs.Words.{Cleared, Along, GraphWords}
 
 -- a run of words that become 2, one by one
-pub blank-none : (a : ℕ) (xs : List ℕ) → Blank a a xs xs
-blank-none a xs = record { long = refl; inside = λ j p q. absurd (omega arith); outside = λ j n. refl }
+pub clear-none : (a : ℕ) (xs : List ℕ) → Cleared a a xs xs
+clear-none a xs = record { long = refl; inside = λ j p q. absurd (omega arith); outside = λ j n. refl }
 
-pub blank-more : {a b : ℕ} {xs ys zs : List ℕ} → Blank a b xs ys → a ≤ b → b < length ys → zs ≡ set ys b 2 → Blank a (b + 1) xs zs
-blank-more {a} {b} {xs} {ys} s l m z = rw z (record {
+pub clear-more : {a b : ℕ} {xs ys zs : List ℕ} → Cleared a b xs ys → a ≤ b → b < length ys → zs ≡ set ys b 2 → Cleared a (b + 1) xs zs
+clear-more {a} {b} {xs} {ys} s l m z = rw z (record {
   long = simp length-set (s .long);
   inside = λ j p q. elim (ℕ-discrete j b) [
     | yes e ↦ rw e (getD-set-same ys b 2 0 m)
@@ -31,23 +30,23 @@ blank-more {a} {b} {xs} {ys} s l m z = rw z (record {
   outside = λ j n. getD-set-other ys b j 2 0 (λ e. n (omega arith) (omega arith)) ∙ s .outside j (λ p q. n p (omega arith));
 })
 
-module _ {ws : List ℕ} {c : Counts} {x : List ℕ} {g : ℕ} where
+module _ {ws : List ℕ} {c : Counts} {g : ℕ} where
   -- the nodes of a graph, as the table of first nodes gives them
-  pub nodes-inside : {firsts : List ℕ} {f n : ℕ} → Ready (run ws c [] x) firsts → g < c .graphs → f ≡ getD firsts g 0 → n ≡ getD firsts (g + 1) 0 → (f ≤ n) × (n ≤ c .nodes)
-  nodes-inside y h e u = (omega (arith, size-is y h e u), rw (u ∙ y .table (g + 1) (omega arith)) (first-few (y .shape) (g + 1) (omega arith)))
+  pub nodes-inside : {firsts : List ℕ} → Ready ws c firsts → g < c .graphs → (getD firsts g 0 ≤ getD firsts (g + 1) 0) × (getD firsts (g + 1) 0 ≤ c .nodes)
+  nodes-inside y h = (omega (arith, size-is (walkable y h) refl refl), rw (y .table (g + 1) (omega arith)) (first-few (y .shape) (g + 1) (omega arith)))
 
-  pub blank-nodes-are : {firsts xs ys : List ℕ} {f n : ℕ} → Ready (run ws c [] x) firsts → g < c .graphs → f ≡ getD firsts g 0 → n ≡ getD firsts (g + 1) 0
-      → Blank f n xs ys → Along ws c x g 0 xs ys
-  blank-nodes-are {firsts} {xs} {ys} {f} {n} y h e u s =
-      let z : f ≡ first ws g = e ∙ y .table g (omega arith) in
-      let m = size-is y h e u in
+  pub nodes-cleared : {x firsts xs ys : List ℕ} → Ready ws c firsts → g < c .graphs → Cleared (getD firsts g 0) (getD firsts (g + 1) 0) xs ys → Along ws c x g 0 xs ys
+  nodes-cleared {x} {firsts} {xs} {ys} y h s =
+      let z = walkable y h .here in
+      let m = walkable y h .next in
       record {
         long = s .long;
         below = λ i p q. absurd (omega arith);
         onward = λ i p q. s .inside (first ws g + i) (omega arith) (omega arith);
-        outside = λ j r. s .outside j (λ p q. r (j - f) (omega arith) (omega arith));
+        outside = λ j r. s .outside j (λ p q. r (j - first ws g) (omega arith) (omega arith));
       }
 
+module _ {ws : List ℕ} {c : Counts} {x : List ℕ} {g : ℕ} where
   -- one node stored, and those up to m where nothing is caught
   pub along-more : {k m v : ℕ} {xs ys zs : List ℕ} → Along ws c x g k xs ys → k < size ws g → first ws g + k < length ys
       → zs ≡ set ys (first ws g + k) v → v ≡ caughtAt ws c x (first ws g + k)
@@ -87,7 +86,7 @@ module _ {ws : List ℕ} {c : Counts} {x : List ℕ} {g : ℕ} where
 -- the graph's own word, after those of its nodes
 module _ {ws : List ℕ} {c : Counts} (a : Shape ws c) {x : List ℕ} {g : ℕ} (h : g < c .graphs) where
   pub whole-written : {k u : ℕ} {xs ys zs : List ℕ} (v : ℕ → ℕ) → Along ws c x g k xs ys → ((i : ℕ) → i < size ws g → getD ys (first ws g + i) 0 ≡ v (first ws g + i))
-      → c .nodes + c .graphs ≤ length xs → zs ≡ set ys (c .nodes + g) u → u ≡ v (c .nodes + g) → Written ws c g v xs zs
+      → c .nodes + c .graphs ≤ length xs → zs ≡ set ys (c .nodes + g) u → u ≡ v (c .nodes + g) → GraphWords ws c g v xs zs
   whole-written {k} {u} {xs} {ys} v s n l z e = rw z (record {
     long = simp length-set (s .long);
     nodes = λ i b. getD-set-other ys (c .nodes + g) (first ws g + i) u 0 (λ q. omega (arith, node-below a g i h b)) ∙ n i b;
@@ -96,7 +95,7 @@ module _ {ws : List ℕ} {c : Counts} (a : Shape ws c) {x : List ℕ} {g : ℕ} 
   })
 
   -- and the graphs before it
-  pub told-more : {live xs ys : List ℕ} (v : ℕ → ℕ) → Told ws c x live g xs → Written ws c g v xs ys → ((p : ℕ) → v p ≡ wordAt ws c x live g p) → Told ws c x live (g + 1) ys
+  pub told-more : {live xs ys : List ℕ} (v : ℕ → ℕ) → Told ws c x live g xs → GraphWords ws c g v xs ys → ((p : ℕ) → v p ≡ toldAt ws c x live g p) → Told ws c x live (g + 1) ys
   told-more v t s e = record {
     long = omega (arith, t .long, s .long);
     nodes = λ i k p q. elim (ℕ-discrete i g) [

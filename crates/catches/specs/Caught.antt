@@ -2,7 +2,7 @@
 use Prim.Native.Nat.{ℕ, _+_, _*_}
 use mathlib.Core.List.{List}
 use Rattle.lists.specs.Counting.{choose}
-use Rattle.form.specs.declared.Counts.{Counts}
+use Rattle.answers.specs.declared.Counts.{Counts}
 use Rattle.detect.specs.Detects.{detects}
 
 -- the value at which place p is stuck in the fault that the vector catches there, or 2 where it catches neither; fault 2p is stuck at 0, 2p + 1 at 1

@@ -2,8 +2,8 @@
 use Prim.Native.Nat.{ℕ, suc, _<_, _≤_}
 use mathlib.Core.Path.{_≡_}
 use mathlib.Core.List.{List}
-use Rattle.form.specs.declared.Counts.{Counts}
-use Rattle.form.specs.Layout.{size}
+use Rattle.answers.specs.declared.Counts.{Counts}
+use Rattle.layout.specs.Layout.{size}
 use Rattle.value.specs.Settings.{good}
 use Rattle.value.specs.Values.{taken}
 use Rattle.detect.specs.Detects.{goodValue}

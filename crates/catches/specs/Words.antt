@@ -3,12 +3,12 @@ use Prim.Native.Nat.{ℕ, _+_, _<_, _≤_}
 use mathlib.Core.Path.{_≡_}
 use mathlib.Core.List.{List}
 use lib.ListN.{length, getD}
-use Rattle.form.specs.declared.Counts.{Counts}
-use Rattle.form.specs.Layout.{first, size}
+use Rattle.answers.specs.declared.Counts.{Counts}
+use Rattle.layout.specs.Layout.{first, size}
 use Rattle.catches.specs.Caught.{caughtAt}
 
 -- the words from a up to b become 2, and the others stay
-pub record Blank (a b : ℕ) (xs ys : List ℕ) : Type 0 where
+pub record Cleared (a b : ℕ) (xs ys : List ℕ) : Type 0 where
   pub long : length ys ≡ length xs
   pub inside : (j : ℕ) → a ≤ j → j < b → getD ys j 0 ≡ 2
   pub outside : (j : ℕ) → (a ≤ j → j < b → ⊥) → getD ys j 0 ≡ getD xs j 0
@@ -21,7 +21,7 @@ pub record Along (ws : List ℕ) (c : Counts) (x : List ℕ) (g k : ℕ) (xs ys 
   pub outside : (j : ℕ) → ((i : ℕ) → i < size ws g → j ≡ first ws g + i → ⊥) → getD ys j 0 ≡ getD xs j 0
 
 -- the words of graph g and of its nodes are those of v at their places, and all other words stay
-pub record Written (ws : List ℕ) (c : Counts) (g : ℕ) (v : ℕ → ℕ) (xs ys : List ℕ) : Type 0 where
+pub record GraphWords (ws : List ℕ) (c : Counts) (g : ℕ) (v : ℕ → ℕ) (xs ys : List ℕ) : Type 0 where
   pub long : length ys ≡ length xs
   pub nodes : (k : ℕ) → k < size ws g → getD ys (first ws g + k) 0 ≡ v (first ws g + k)
   pub whole : getD ys (c .nodes + g) 0 ≡ v (c .nodes + g)

@@ -1,7 +1,7 @@
 -- What the fast change walk may leave out, and its steps, said of the definitions. Assumes nothing.
 use Prim.Native.Nat.{ℕ, zero, suc, _+_, _-_, _<_, _≤_}
 use mathlib.Core.Path.{_≡_, refl, sym, ap, _∙_}
-use mathlib.Core.List.{List, []}
+use mathlib.Core.List.{List}
 use mathlib.Core.Bool.{Bool, true, false, not, _&&_, true≢false}
 use native.Mathlib.Omega.{arith}
 use native.Mathlib.Decide.{ℕ-discrete, decLt}
@@ -9,27 +9,21 @@ use lib.ListN.{getD, set, length-set}
 use lib.Seq.{getD-set-same, getD-set-other}
 use lib.Dec.{eqb}
 use Rattle.lists.proofs.Tests.{agree, differ, some-none}
-use Rattle.form.specs.declared.Counts.{Counts}
-use Rattle.form.specs.Layout.{size, reads, observable}
-use Rattle.form.specs.Shape.{Shape}
+use Rattle.answers.specs.declared.Counts.{Counts}
+use Rattle.layout.specs.Layout.{size, reads, observable}
+use Rattle.layout.specs.Shape.{Shape}
 use Rattle.value.specs.Settings.{good}
 use Rattle.value.specs.Values.{walk, taken, value}
-use Rattle.value.specs.Run.{run, Ready}
 use Rattle.value.proofs.Values.{graph-reads}
 use Rattle.detect.specs.Detects.{observed}
 use Rattle.rules.specs.Rules.{flipped, critical}
 use Rattle.rules.proofs.Changes.{good-solves, flipped-below, flipped-gives}
 use Rattle.rules.proofs.Faults.{critical-early}
 use Rattle.sweep.specs.Swept.{Swept}
-use Rattle.reach.specs.Reach.{Reach}
+use Rattle.layout.specs.Tables.{Reach, row, Tabled}
 use Rattle.change.specs.Flips.{Has, Between}
 use Rattle.change.proofs.Laws.{flip-starts, flip-input, flip-output}
-use Rattle.critical.specs.Walking.{Grounds, From, Upto, Next, Quiet, Walking, Stepped, Apart, But}
-
--- what the walk stands on
-pub grounds : {ws : List ℕ} {c : Counts} {firsts lows highs x places : List ℕ} → Ready (run ws c [] x) firsts → Swept ws c x (c .graphs) places
-    → Reach ws c lows highs → Grounds ws c firsts highs x places
-grounds y s r = record { ready = y; swept = s; long = r .high-long; high = r .high }
+use Rattle.critical.specs.Walking.{From, Upto, Next, Quiet, Walking, Stepped, Apart, But}
 
 -- the change walk of graph g
 module _ {ws : List ℕ} {c : Counts} (a : Shape ws c) (x : List ℕ) (g : ℕ) (l : g < c .graphs) where
@@ -83,12 +77,12 @@ module _ {ws : List ℕ} {c : Counts} (a : Shape ws c) (x : List ℕ) (g : ℕ) 
     not-critical = sym (some-none _ (c .graphs) (λ i m. none-seen i m (observable ws i) refl))
 
 -- the walk's start, with g flipped
-module _ {ws x firsts lows highs : List ℕ} {c : Counts} (y : Ready (run ws c [] x) firsts) (r : Reach ws c lows highs) {g : ℕ} (l : g < c .graphs) where
+module _ {ws lows highs : List ℕ} {c : Counts} (a : Shape ws c) (r : Reach ws c lows highs) (x : List ℕ) {g : ℕ} (l : g < c .graphs) where
   pub walk-starts : {start limit n : ℕ} {xs ys : List ℕ} → From (c .graphs) g (getD lows g 0) start → Upto (c .graphs) 0 (getD highs g 0) limit
       → observable ws g ≡ false → Has (value ws c good x) (c .graphs) xs → n ≡ getD xs g 0 → ys ≡ set xs g (1 - n) → Walking ws c x g start limit ys
   walk-starts {start} {limit} {n} {xs} {ys} f u o s e z =
-      let q = quiet (y .shape) x g l r f in
-      let t = flip-starts y g s l e z in
+      let q = quiet a x g l r f in
+      let t = flip-starts a x g s l e z in
       let up = f .above in
       record {
         between = record {
@@ -102,12 +96,12 @@ module _ {ws x firsts lows highs : List ℕ} {c : Counts} (y : Ready (run ws c [
         above = up;
         inside = u .inside;
         silent = λ i b m p. q .same i b m (λ d. true≢false (sym p ∙ ap (observable ws) d ∙ o));
-        kept = λ j k b m p d. q .same (reads ws j k) d (omega (arith, y .shape .reads-lower j m k p)) (λ h.
+        kept = λ j k b m p d. q .same (reads ws j k) d (omega (arith, a .reads-lower j m k p)) (λ h.
             omega (arith, u .past j m (rw h at (r .high j k m p))));
       }
 
 -- one step at h
-module _ {ws x firsts highs places : List ℕ} {c : Counts} (y : Grounds ws c firsts highs x places) {g h limit : ℕ} {xs : List ℕ} (b : h < limit)
+module _ {ws x values : List ℕ} {tables : List (List ℕ)} {c : Counts} (y : Tabled ws c tables) (p : Swept ws c x (c .graphs) values) {g h limit : ℕ} {xs : List ℕ} (b : h < limit)
     (s : Walking ws c x g h limit xs) where
   pub here : h < c .graphs
   here = omega (arith, s .inside)
@@ -129,32 +123,32 @@ module _ {ws x firsts highs places : List ℕ} {c : Counts} (y : Grounds ws c fi
           };
           above = omega arith;
           inside = s .inside;
-          silent = λ i o m p. elim (ℕ-discrete i h) [
+          silent = λ i o m q. elim (ℕ-discrete i h) [
             | yes j ↦ rw j e
-            | no j ↦ s .silent i (omega arith) m p
+            | no j ↦ s .silent i (omega arith) m q
           ];
-          kept = λ j k o m p d. elim (ℕ-discrete (reads ws j k) h) [
+          kept = λ j k o m f d. elim (ℕ-discrete (reads ws j k) h) [
             | yes q ↦ rw q e
-            | no q ↦ s .kept j k o m p (omega arith)
+            | no q ↦ s .kept j k o m f (omega arith)
           ];
         };
       }
 
   pub input-step : h < c .inputs → Stepped ws c x g h limit xs
   input-step i =
-      let t = flip-input (y .ready) g (s .between) (s .above) here i in
+      let t = flip-input (y .ready .shape) x g (s .between) (s .above) here i in
       same-step (sym (t .below h (omega arith) here) ∙ s .between .onward h (omega arith) here)
 
   -- graph h walked again gives n, and its good value is `own`
-  module _ (i : c .inputs ≤ h) {n own : ℕ} (d : n ≡ walk (taken ws good (λ i. getD xs i 0) h) (size ws h) 0) (o : own ≡ getD places (c .nodes + h) 0) where
+  module _ (i : c .inputs ≤ h) {n own : ℕ} (d : n ≡ walk (taken ws good (λ i. getD xs i 0) h) (size ws h) 0) (o : own ≡ getD values (c .nodes + h) 0) where
     walked : Between (flipped ws c x g) (value ws c good x) (c .graphs) (h + 1) (set xs h n)
-    walked = flip-output (y .ready) g (s .between) (s .above) here i d refl
+    walked = flip-output (y .ready .shape) x g (s .between) (s .above) here i d refl
 
     flipped-is : n ≡ flipped ws c x g h
     flipped-is = sym (getD-set-same xs h n 0 (omega (arith, s .between .long, here))) ∙ walked .below h (omega arith) here
 
     own-is : own ≡ value ws c good x h
-    own-is = o ∙ y .swept .graphs h here
+    own-is = o ∙ p .graphs h here
 
     pub kept-step : n ≡ own → Stepped ws c x g h limit xs
     kept-step e = same-step (sym flipped-is ∙ e ∙ own-is)
@@ -164,14 +158,14 @@ module _ {ws x firsts highs places : List ℕ} {c : Counts} (y : Grounds ws c fi
       listed-here q = e (flipped-is ∙ q ∙ sym own-is)
 
       pub seen-step : {q : Bool} → q ≡ observable ws h → q ≡ true → Stepped ws c x g h 0 xs
-      seen-step t p = record {
-        seen = λ z. (sym (critical-early (y .ready .shape) x g h here (sym t ∙ p) (differ _ _ listed-here)), s .between);
+      seen-step t u = record {
+        seen = λ z. (sym (critical-early (y .ready .shape) x g h here (sym t ∙ u) (differ _ _ listed-here)), s .between);
         goes = λ z. absurd (omega arith);
       }
 
-      pub listed-step : {q : Bool} {next : ℕ} {ys : List ℕ} → q ≡ observable ws h → q ≡ false → ys ≡ set xs h n → Upto (c .graphs) limit (getD highs h 0) next
+      pub listed-step : {q : Bool} {next : ℕ} {ys : List ℕ} → q ≡ observable ws h → q ≡ false → ys ≡ set xs h n → Upto (c .graphs) limit (getD (row tables 2) h 0) next
           → Stepped ws c x g h next ys
-      listed-step {q} {next} {ys} t p z u =
+      listed-step {q} {next} {ys} t f z u =
           let more = u .more in
           let up = s .above in
           rw z (record {
@@ -181,12 +175,12 @@ module _ {ws x firsts highs places : List ℕ} {c : Counts} (y : Grounds ws c fi
               above = omega arith;
               inside = u .inside;
               silent = λ i r m k. elim (ℕ-discrete i h) [
-                | yes j ↦ absurd (true≢false (sym k ∙ ap (observable ws) j ∙ sym t ∙ p))
+                | yes j ↦ absurd (true≢false (sym k ∙ ap (observable ws) j ∙ sym t ∙ f))
                 | no j ↦ s .silent i (omega arith) m k
               ];
-              kept = λ j k r m f d. elim (ℕ-discrete (reads ws j k) h) [
-                | yes q ↦ absurd (omega (arith, u .past j m (rw q at (y .high j k m f))))
-                | no q ↦ s .kept j k (omega arith) m f (omega arith)
+              kept = λ j k r m o d. elim (ℕ-discrete (reads ws j k) h) [
+                | yes q ↦ absurd (omega (arith, u .past j m (rw q at (y .reach .high j k m o))))
+                | no q ↦ s .kept j k (omega arith) m o (omega arith)
               ];
             };
           })

@@ -2,24 +2,15 @@
 -- Assumes nothing.
 use Prim.Native.Nat.{ℕ, _+_, _<_, _≤_}
 use mathlib.Core.Path.{_≡_}
-use mathlib.Core.List.{List, []}
+use mathlib.Core.List.{List}
 use mathlib.Core.Bool.{true}
 use lib.ListN.{length, getD}
-use Rattle.form.specs.declared.Counts.{Counts}
-use Rattle.form.specs.Layout.{size, reads, observable}
+use Rattle.answers.specs.declared.Counts.{Counts}
+use Rattle.layout.specs.Layout.{size, reads, observable}
 use Rattle.value.specs.Settings.{good}
 use Rattle.value.specs.Values.{value}
-use Rattle.value.specs.Run.{run, Ready}
-use Rattle.sweep.specs.Swept.{Swept}
 use Rattle.rules.specs.Rules.{flipped, critical}
 use Rattle.change.specs.Flips.{Between}
-
--- a card under a vector, its good values, and the highest readers of its graphs
-pub record Grounds (ws : List ℕ) (c : Counts) (firsts highs x places : List ℕ) : Type 0 where
-  pub ready : Ready (run ws c [] x) firsts
-  pub swept : Swept ws c x (c .graphs) places
-  pub long : c .graphs ≤ length highs
-  pub high : (h k : ℕ) → h < c .graphs → k < size ws h → h ≤ getD highs (reads ws h k) 0
 
 -- r is above g, and no more than the first of n graphs above g that is not below `low`
 pub record From (n g low r : ℕ) : Type 0 where

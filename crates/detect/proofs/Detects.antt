@@ -6,7 +6,7 @@ use mathlib.Core.Bool.{true, false, not, _&&_}
 use lib.Dec.{eqb}
 use Rattle.lists.proofs.Tests.{and-none, and-all, differ, agree, some-same, some-none, some-has}
 use Rattle.lists.proofs.Net.{Same}
-use Rattle.form.specs.Layout.{observable}
+use Rattle.layout.specs.Layout.{observable}
 use Rattle.detect.specs.Detects.{observed}
 
 module _ (ws : List ℕ) (n : ℕ) (v : ℕ → ℕ) where

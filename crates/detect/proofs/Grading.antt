@@ -8,8 +8,8 @@ use lib.Dec.{ltb}
 use borrow.Author.Tests.{lt-ltb, le-ltb}
 use Rattle.lists.specs.Counting.{choose, least}
 use Rattle.lists.proofs.Counting.{least-kept, least-new, found-counted}
-use Rattle.form.specs.declared.Counts.{Counts}
-use Rattle.vectors.specs.Vectors.{vectors}
+use Rattle.answers.specs.declared.Counts.{Counts}
+use Rattle.testvectors.specs.Vectors.{vectors}
 use Rattle.detect.specs.Grading.{markBy, detectedBy, tally}
 
 -- of a fault that the vectors t with p t catch

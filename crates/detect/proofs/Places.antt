@@ -5,11 +5,10 @@ use mathlib.Core.List.{List}
 use native.Mathlib.Omega.{arith}
 use native.Mathlib.Decide.{decLt}
 use borrow.Author.Tests.{lt-ltb, le-ltb}
-use Rattle.form.specs.declared.Counts.{Counts}
-use Rattle.form.specs.Layout.{first, size}
-use Rattle.form.specs.Shape.{Shape}
-use Rattle.form.proofs.Places.{first-next, one-place}
-use Rattle.value.proofs.Values.{node-below}
+use Rattle.answers.specs.declared.Counts.{Counts}
+use Rattle.layout.specs.Layout.{first, size}
+use Rattle.layout.specs.Shape.{Shape}
+use Rattle.layout.proofs.Firsts.{first-next, one-place, node-below}
 use Rattle.detect.specs.Detects.{standsIn}
 
 -- each node below those of graph G stands in a graph

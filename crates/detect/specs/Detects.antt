@@ -4,10 +4,10 @@ use mathlib.Core.List.{List, [], _∷_}
 use mathlib.Core.Bool.{Bool, not, _&&_}
 use lib.Dec.{ltb, eqb}
 use Rattle.lists.specs.Counting.{choose, some-below}
-use Rattle.form.specs.declared.Counts.{Counts}
-use Rattle.form.specs.Layout.{first, observable}
+use Rattle.answers.specs.declared.Counts.{Counts}
+use Rattle.layout.specs.Layout.{first, observable, decision}
 use Rattle.value.specs.Settings.{good, faulty}
-use Rattle.value.specs.Values.{decision, value}
+use Rattle.value.specs.Values.{value}
 
 -- some observable graph of the first n has another value in w than in v
 unfoldable pub observed : List ℕ → ℕ → (ℕ → ℕ) → (ℕ → ℕ) → Bool

@@ -4,8 +4,8 @@ use mathlib.Core.List.{List}
 use mathlib.Core.Bool.{Bool, true, _&&_}
 use lib.Dec.{ltb}
 use Rattle.lists.specs.Counting.{choose, count, least}
-use Rattle.form.specs.declared.Counts.{Counts}
-use Rattle.vectors.specs.Vectors.{vectors, vector}
+use Rattle.answers.specs.declared.Counts.{Counts}
+use Rattle.testvectors.specs.Vectors.{vectors, vector}
 use Rattle.detect.specs.Detects.{detects}
 
 -- the mark of a fault that the vectors t with p t catch, of the first n: C0000000 if none does, else E0000000 plus the earliest

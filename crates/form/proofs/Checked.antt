@@ -12,16 +12,18 @@ use borrow.Author.Tests.{eqb-false, le-leb, lt-leb}
 use Rattle.lists.specs.Counting.{choose, count}
 use Rattle.lists.proofs.Tests.{choose-bit}
 use Rattle.lists.proofs.Counting.{count-next, count-le}
-use Rattle.words.specs.Fields.{kind, nodeCount, readGraph, exitOf}
-use Rattle.form.specs.declared.Rule.the-variants.{CardTooLong, WordNotDue, NothingObservable}
-use Rattle.form.specs.declared.Counts.{Counts}
-use Rattle.form.specs.declared.Verdict.the-variants.{Sound}
-use Rattle.form.specs.declared.Answer.the-variants.{Accepted}
-use Rattle.form.specs.Check.{test, firstBroken, counts, place, withGraph, headerVerdict, word, readVerdict, exitsVerdict, nodesVerdict, graphVerdict, ended, rest, checkedWith}
-use Rattle.form.specs.Layout.{first, header, isInput, observable, size, reads, exits}
-use Rattle.form.specs.Shape.{ReadsLower, ExitsLater, Shape, Accepts}
-use Rattle.form.proofs.Places.{first-next}
-use Rattle.form.proofs.Verdicts.{then-sound, all-passed, onward-accepts, header-sound, an-input, an-output, header-few, read-lower, exits-sound, later-exits, nodes-sound}
+use Rattle.word32.specs.Fields.{kind, nodeCount, readGraph, exitOf}
+use Rattle.answers.specs.declared.Rule.the-variants.{CardTooLong, WordNotDue, NothingObservable}
+use Rattle.answers.specs.declared.Counts.{Counts}
+use Rattle.answers.specs.declared.Verdict.the-variants.{Sound}
+use Rattle.answers.specs.declared.Answer.the-variants.{Accepted}
+use Rattle.answers.specs.Tests.{test, firstBroken}
+use Rattle.form.specs.Check.{counts, place, withGraph, headerVerdict, word, readVerdict, exitsVerdict, nodesVerdict, graphVerdict, ended, rest, checkedWith}
+use Rattle.layout.specs.Layout.{first, header, isInput, observable, size, reads, exits}
+use Rattle.layout.specs.Shape.{ReadsLower, ExitsLater, Shape, Accepts}
+use Rattle.layout.proofs.Firsts.{first-next}
+use Rattle.answers.proofs.Tests.{then-sound, all-passed, onward-accepts}
+use Rattle.form.proofs.Verdicts.{header-sound, an-input, an-output, header-few, read-lower, exits-sound, later-exits, nodes-sound}
 
 -- The graph due after those that c counts. Its header w and its words are those that the layout names.
 module _ (ws : List ℕ) (c : Counts) (s : Shape ws c) where
@@ -165,3 +167,7 @@ unfolding checkedWith
 check-accepts ws extra c e =
     rest-accepts ws extra c 1025 (counts 0 0 0 0) (none-read ws)
     (onward-accepts (firstBroken (test (ltb 9216 (length ws)) CardTooLong 0 ∷ [])) _ c e .1)
+
+-- an accepted card has some inputs, and not too many
+pub some-inputs : {ws : List ℕ} {c : Counts} → Accepts ws c → (0 < c .inputs) × (c .inputs ≤ 1024)
+some-inputs a = omega (arith, a .some-input, a .shape .inputs-in, a .shape .few-graphs)

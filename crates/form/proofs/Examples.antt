@@ -3,7 +3,7 @@ use Prim.Native.Nat.{ℕ}
 use mathlib.Core.List.{List, [], _∷_, map}
 use mathlib.Core.Path.{_≡_, refl}
 use Rattle.form.specs.Check.{checked, checkedWith}
-use Rattle.form.specs.Answers.{numberOf, valuesOf}
+use Rattle.answers.specs.Answers.{numberOf, valuesOf}
 
 abbrev pub S : List ℕ
 S = 0x00000000 ∷ 0x20000001 ∷ 0x60000000 ∷ 0x80000001 ∷ 0x40000002 ∷ 0x60000001 ∷ 0x80000003 ∷ 0x60000000 ∷ 0x80000001 ∷ []

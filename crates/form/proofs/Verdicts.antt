@@ -9,42 +9,14 @@ use lib.ListN.{length}
 use lib.Dec.{ltb, leb, eqb}
 use borrow.Author.Tests.{ltb-false, leb-false, eqb-true, eqb-false, lt-ltb, not-false}
 use Rattle.lists.proofs.Tests.{or-false}
-use Rattle.words.specs.Fields.{kind, inputSpare, readSpare, exitsSpare, nodeCount, readGraph, exitOf}
-use Rattle.form.specs.declared.Rule.{Rule}
-use Rattle.form.specs.declared.Rule.the-variants.{TooManyGraphs, StrayBit, ReadNotBelow, ExitNotLater}
-use Rattle.form.specs.declared.Counts.{Counts}
-use Rattle.form.specs.declared.Verdict.{Verdict}
-use Rattle.form.specs.declared.Verdict.the-variants.{Sound, Broken}
-use Rattle.form.specs.declared.Answer.{Answer}
-use Rattle.form.specs.declared.Answer.the-variants.{Accepted}
-use Rattle.form.specs.Check.{Test, test, due, unless, firstBroken, andThen, onward, place, inputTests, outputTests, headerVerdict, misplaced, word, readVerdict, exitsVerdict, nodeVerdict, nodesVerdict}
-
-pub not-sound : (r : Rule) (p : ℕ) → Broken r p ≡ Sound → ⊥
-not-sound r p e = let z : _≡_ {A = ℕ} 0 1 = cc in omega arith
-
--- no test of the list is broken
-abbrev pub Passed : List Test → Type 0
-Passed [] = Unit {0}
-Passed (t ∷ ts) = (t .broken ≡ false) × Passed ts
-
--- a sound verdict has sound parts, and an accepting answer sound verdicts
-pub then-sound : (u v : Verdict) → andThen u v ≡ Sound → (u ≡ Sound) × (v ≡ Sound)
-then-sound Sound v e = (refl, e)
-then-sound (Broken r p) v e = (e, cc)
-
-test-sound : (b : Bool) (r : Rule) (p : ℕ) (v : Verdict) → unless b (Broken r p) v ≡ Sound → (b ≡ false) × (v ≡ Sound)
-test-sound true r p v e = (cc, cc)
-test-sound false r p v e = (refl, e)
-
-pub all-passed : (ts : List Test) → firstBroken ts ≡ Sound → Passed ts
-all-passed [] e = tt
-all-passed (t ∷ ts) e =
-    let (b, e′) = test-sound (t .broken) (t .rule) (t .position) (firstBroken ts) e in
-    (b, all-passed ts e′)
-
-pub onward-accepts : (v : Verdict) (a : Answer) (c : Counts) → onward v a ≡ Accepted c → (v ≡ Sound) × (a ≡ Accepted c)
-onward-accepts Sound a c e = (refl, e)
-onward-accepts (Broken r p) a c e = (cc, cc)
+use Rattle.answers.proofs.Tests.{then-sound, all-passed}
+use Rattle.word32.specs.Fields.{kind, inputSpare, readSpare, exitsSpare, nodeCount, readGraph, exitOf}
+use Rattle.answers.specs.declared.Rule.{Rule}
+use Rattle.answers.specs.declared.Rule.the-variants.{TooManyGraphs, StrayBit, ReadNotBelow, ExitNotLater}
+use Rattle.answers.specs.declared.Counts.{Counts}
+use Rattle.answers.specs.declared.Verdict.the-variants.{Sound}
+use Rattle.answers.specs.Tests.{test, unless, firstBroken}
+use Rattle.form.specs.Check.{due, place, inputTests, outputTests, headerVerdict, misplaced, word, readVerdict, exitsVerdict, nodeVerdict, nodesVerdict}
 
 -- a sound header w: of an input it is all zero, of an output it counts some nodes and not too many
 module _ (w : ℕ) (c : Counts) (e : headerVerdict w c ≡ Sound) where

@@ -6,41 +6,14 @@ use mathlib.Core.Bool.{Bool, true, false, not, _&&_, _||_}
 use lib.ListN.{length, getD}
 use lib.Dec.{ltb, leb, eqb}
 use Rattle.lists.specs.Counting.{choose, some-below}
-use Rattle.words.specs.Fields.{kind, inputSpare, headerSpare, readSpare, exitsSpare, nodeCount, readGraph, exitOf}
-use Rattle.form.specs.declared.Rule.{Rule}
-use Rattle.form.specs.declared.Rule.the-variants.{CardTooLong, TooManyGraphs, NodeCount, WordNotDue, StrayBit, ReadNotBelow, ExitNotLater, NodeNotNamed, NothingObservable}
-use Rattle.form.specs.declared.Counts.{Counts}
-use Rattle.form.specs.declared.Verdict.{Verdict}
-use Rattle.form.specs.declared.Verdict.the-variants.{Sound, Broken}
-use Rattle.form.specs.declared.Answer.{Answer}
-use Rattle.form.specs.declared.Answer.the-variants.{Accepted, Refused}
-
--- a rule in its place: where `broken` holds, the card is refused by `rule` at `position`
-pub record Test : Type 0 where
-  pub broken : Bool
-  pub rule : Rule
-  pub position : ℕ
-
-abbrev pub test : Bool → Rule → ℕ → Test
-test b r p = record { broken = b; rule = r; position = p }
-
--- the first broken test of a list
-abbrev pub unless : Bool → Verdict → Verdict → Verdict
-unless true a b = a
-unless false a b = b
-
-abbrev pub firstBroken : List Test → Verdict
-firstBroken [] = Sound
-firstBroken (t ∷ ts) = unless (t .broken) (Broken (t .rule) (t .position)) (firstBroken ts)
-
--- a verdict, and where it is sound, another; or an answer
-abbrev pub andThen : Verdict → Verdict → Verdict
-andThen Sound v = v
-andThen (Broken r p) v = Broken r p
-
-abbrev pub onward : Verdict → Answer → Answer
-onward Sound a = a
-onward (Broken r p) a = Refused r p
+use Rattle.answers.specs.Tests.{Test, test, unless, firstBroken, andThen, onward}
+use Rattle.word32.specs.Fields.{kind, inputSpare, headerSpare, readSpare, exitsSpare, nodeCount, readGraph, exitOf}
+use Rattle.answers.specs.declared.Rule.the-variants.{CardTooLong, TooManyGraphs, NodeCount, WordNotDue, StrayBit, ReadNotBelow, ExitNotLater, NodeNotNamed, NothingObservable}
+use Rattle.answers.specs.declared.Counts.{Counts}
+use Rattle.answers.specs.declared.Verdict.{Verdict}
+use Rattle.answers.specs.declared.Verdict.the-variants.{Sound}
+use Rattle.answers.specs.declared.Answer.{Answer}
+use Rattle.answers.specs.declared.Answer.the-variants.{Accepted, Refused}
 
 -- With N nodes and G graphs there are 2N + 2G faults.
 abbrev pub counts : ℕ → ℕ → ℕ → ℕ → Counts

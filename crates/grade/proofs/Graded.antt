@@ -1,12 +1,12 @@
--- A list of vectors, taken in one after the other. For both gradings. Assumes nothing.
-use Prim.Native.Nat.{ℕ, zero, suc, _+_, _-_, _<_, _≤_}
+-- A list of vectors, taken in block by block. For both gradings. Assumes nothing.
+use Prim.Native.Nat.{ℕ, zero, suc, _+_, _-_, _*_, _<_, _≤_}
 use mathlib.Core.Path.{_≡_, refl, sym, ap, _∙_}
 use mathlib.Core.List.{List}
 use mathlib.Core.Bool.{Bool, true, false, not, _&&_}
 use native.Mathlib.Omega.{arith}
 use native.Mathlib.Decide.{decLt}
-use native.Mathlib.Numerals.{add-one}
-use lib.ListN.{length, getD, drop}
+use native.Mathlib.Nat.{add-zero, add-mul, mul-le-mul}
+use lib.ListN.{length, getD, take, drop}
 use lib.Seq.{ext-getD, getD-append-add, getD-drop}
 use lib.Dec.{ltb, eqb}
 use borrow.Author.Tests.{ne-eqb, lt-ltb, le-ltb}
@@ -15,12 +15,17 @@ use Rattle.lists.specs.Tables.{tab, over, always}
 use Rattle.lists.proofs.Counting.{count-same, count-next}
 use Rattle.lists.proofs.Tables.{length-tab, over-at, length-over}
 use Rattle.lists.proofs.Tests.{differ}
-use Rattle.form.specs.declared.Counts.{Counts}
-use Rattle.vectors.specs.Vectors.{vectors, vector}
-use Rattle.detect.specs.Grading.{markBy, detectedBy, tally, mark, inGrade, marked}
+use Rattle.answers.specs.declared.Counts.{Counts}
+use Rattle.testvectors.specs.Vectors.{width, vectors}
+use Rattle.testvectors.specs.Parts.{Part}
+use Rattle.testvectors.proofs.Parts.{width-few, part-ends, part-of}
+use Rattle.detect.specs.Detects.{detects}
+use Rattle.detect.specs.Grading.{detectedBy, tally, mark, inGrade, marked}
 use Rattle.detect.proofs.Grading.{mark-kept, mark-new, tallied}
-use Rattle.running.specs.Running.{blank, after, found, Taken}
-use Rattle.grade.specs.Graded.{wordBy, graded, Graded}
+use Rattle.running.specs.Running.{blank, after, found}
+use Rattle.running.specs.declared.Running.{Running}
+use Rattle.block.specs.Block.{afterAll, UpdatedAll, Ends, Block, TookIn}
+use Rattle.grade.specs.Graded.{wordBy, graded, Graded, Listed}
 
 -- a buffer beyond the words that were made
 over-rest : (f : ℕ → ℕ) (d : List ℕ) (n i : ℕ) → n ≤ i → getD (over n f d) i 0 ≡ getD d i 0
@@ -67,14 +72,60 @@ word-next false p t = rw (count-next p t) (counted (p t))
     counted true = refl
     counted false = omega arith
 
+-- after n more, where q tells of each what p tells of it by its number
+words-next : (drops : Bool) (p q : ℕ → Bool) (t n : ℕ) → ((i : ℕ) → i < n → q i ≡ p (t + i)) → afterAll drops t q n (wordBy drops p t) ≡ wordBy drops p (t + n)
+unfolding afterAll
+words-next drops p q t zero e = rw add-zero
+words-next drops p q t (suc n) e =
+    let u : t + suc n ≡ suc (t + n) = omega arith in
+    rw (u, words-next drops p q t n (λ i h. e i (omega arith)), e n (omega arith)) (word-next drops p (t + n))
+
+-- ONE BLOCK of a list, vectors t to e - 1: its words stand inside the list, and it is a part of the list
+module _ {ws : List ℕ} {c : Counts} {vs : List ℕ} {t n e w : ℕ} (y : Listed ws c vs) (q : w ≡ width (c .inputs)) (z : Ends t n e) (m : n ≤ vectors (c .inputs) vs) where
+  few-words : w ≤ 64
+  few-words = rw q (width-few (c .inputs) (omega (arith, y .shape .inputs-in, y .shape .few-graphs)))
+
+  pub list-ends : (t * w ≤ e * w) × (e * w ≤ length vs) × (e * w ≤ 65535 * 64)
+  list-ends =
+      let s = part-ends (c .inputs) w t e (vectors (c .inputs) vs) q (omega (arith, z .some)) (omega (arith, z .inside)) in
+      let l : e ≤ 65535 = omega (arith, y .few, z .inside) in
+      (s .0, rw (y .whole) (s .1), mul-le-mul l few-words)
+
+  -- there is room for its words
+  pub list-fits : e * w - t * w ≤ 4096
+  list-fits =
+      let d = e - t in
+      let s : e * w ≡ t * w + d * w = let u : e ≡ t + d = omega (arith, z .some) in ap (λ (k : ℕ). k * w) u ∙ add-mul t d w in
+      let l : d ≤ 64 = omega (arith, z .few) in
+      omega (arith, s, mul-le-mul l few-words)
+
+  pub list-part : {bs : List ℕ} → bs ≡ take (e * w - t * w) (drop (t * w) vs) → Part (c .inputs) vs t (e - t) bs
+  list-part {bs} p = part-of (c .inputs) vs t e (y .some-input) (omega (arith, z .some)) (rw (← q) (list-ends .1)) bs (e * w - t * w) (t * w) (rw q refl) (rw q refl) p
+
+  pub block-of : {v : ℕ} {bs : List ℕ} → Part (c .inputs) vs t (e - t) bs → v ≡ t → Block c bs v
+  block-of p v = record { some-input = y .some-input; whole = p .whole; few = omega (arith, p .number, y .few, z .inside, z .some) }
+
 module _ (drops : Bool) (ws : List ℕ) (c : Counts) (vs : List ℕ) where
-  -- one vector more
-  pub graded-next : {t : ℕ} {xs ys zs : List ℕ} → Graded drops ws c vs t xs ys → Taken drops ws c (vector (c .inputs) vs t) t ys zs → Graded drops ws c vs (t + 1) xs zs
-  unfolding detectedBy
-  graded-next {t} {xs} {ys} {zs} s w = record {
-    word = λ f h. rw (add-one t) (w .word f h ∙ ap (after drops t (detectedBy ws c vs f t)) (s .word f h) ∙ word-next drops (detectedBy ws c vs f) t);
-    rest = λ f h. w .rest f h ∙ s .rest f h;
-  }
+  module _ {t n e : ℕ} {bs : List ℕ} (p : Part (c .inputs) vs t (e - t) bs) (h : Ends t n e) where
+    module _ {live ys zs : List ℕ} {r q : Running} (v : r .vector ≡ t) (k : TookIn drops ws c bs live ys zs r q) where
+      pub block-number : q .vector ≡ e
+      block-number = omega (arith, k .vector, p .number, h .some)
+
+      -- it takes the buffer of the first t vectors to that of the first e
+      pub graded-block : {xs : List ℕ} → Graded drops ws c vs t xs ys → Graded drops ws c vs e xs zs
+      unfolding detectedBy
+      graded-block {xs} s = record {
+        word = λ f b.
+            let u : t + (e - t) ≡ e = omega (arith, h .some) in
+            w .word f b
+            ∙ ap (afterAll drops t (detectedBy ws c bs f) (e - t)) (s .word f b)
+            ∙ words-next drops (detectedBy ws c vs f) (detectedBy ws c bs f) t (e - t) (λ i l. ap (λ (x : List ℕ). detects ws c x f) (p .same i l))
+            ∙ ap (wordBy drops (detectedBy ws c vs f)) u;
+        rest = λ f b. w .rest f b ∙ s .rest f b;
+      }
+        where
+          w : UpdatedAll drops ws c bs t (e - t) ys zs
+          w = rw (v, p .number) at (k .updated)
 
   word-last : (f : ℕ) → wordBy drops (detectedBy ws c vs f) (vectors (c .inputs) vs) ≡ graded drops ws c vs f
   unfolding tally mark

@@ -1,4 +1,3 @@
--- A list of vectors, the tests of a grading, and the table of cases.
+-- A list of vectors, and what a grading that passes its tests knows.
 pub mod Graded
 pub mod Tests
-pub mod Starred

@@ -5,11 +5,10 @@ use mathlib.Core.List.{List}
 use mathlib.Core.Bool.{Bool, true, false}
 use lib.ListN.{length, getD}
 use Rattle.lists.specs.Counting.{count}
-use Rattle.form.specs.declared.Counts.{Counts}
-use Rattle.form.specs.Shape.{Shape}
-use Rattle.vectors.specs.Vectors.{width, vectors}
+use Rattle.answers.specs.declared.Counts.{Counts}
+use Rattle.layout.specs.Shape.{Shape}
+use Rattle.testvectors.specs.Vectors.{width, vectors}
 use Rattle.detect.specs.Grading.{markBy, detectedBy, tally, mark}
-use Rattle.grade.specs.Calls.{marksBuffer, talliesBuffer}
 
 -- the word of a fault after the first t vectors, p telling which vectors catch it; and after the whole list
 abbrev pub wordBy : Bool → (ℕ → Bool) → ℕ → ℕ
@@ -31,8 +30,3 @@ pub record Listed (ws : List ℕ) (c : Counts) (vs : List ℕ) : Type 0 where
   pub some-input : 0 < c .inputs
   pub whole : length vs ≡ vectors (c .inputs) vs * width (c .inputs)
   pub few : vectors (c .inputs) vs ≤ 65535
-
--- the buffer after either grading, as the calls' own definitions have it
-abbrev pub gradeBuffer : Bool → List ℕ → List ℕ → List ℕ → List ℕ
-gradeBuffer true ws vs b = marksBuffer ws vs b
-gradeBuffer false ws vs b = talliesBuffer ws vs b

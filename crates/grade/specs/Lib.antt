@@ -1,3 +1,3 @@
 pub mod Calls
 pub mod Graded
-pub mod Starred
+pub mod Either

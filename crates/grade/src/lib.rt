@@ -3,121 +3,92 @@ ghost use mathlib.Core.Path.{_≡_};
 ghost use Prim.Native.Nat.{_≤_};
 ghost use lib.ListN.{length};
 ghost use Rattle.lists.specs.Tables.{over};
+ghost use Rattle.answers.specs.Tests.{firstBroken};
 ghost use Rattle.detect.specs.Grading.{marked};
-ghost use Rattle.reach.specs.Reach.{Placed, Reach};
-ghost use Rattle.catches.specs.Told.{Room};
-ghost use Rattle.running.specs.Running.{Standing};
-ghost use Rattle.grade.specs.Graded.{Listed, graded, Graded, gradeBuffer};
-ghost use Rattle.grade.specs.Calls.{gradeReply, marksBuffer, talliesBuffer};
-use form::Answer;
-use form::Counts;
-use form::Reply;
-use form::Rule;
-use form::Verdict;
+ghost use Rattle.layout.specs.Tables.{Tabled};
+ghost use Rattle.block.specs.Block.{Standing};
+ghost use Rattle.grade.specs.Graded.{Listed, graded, Graded};
+ghost use Rattle.grade.specs.Either.{gradeBuffer};
+ghost use Rattle.grade.specs.Calls.{gradeTests, gradeReply, marksBuffer, talliesBuffer};
+use answers::Answer;
+use answers::Counts;
+use answers::Reply;
+use answers::Rule;
+use answers::Verdict;
+use layout::Tables;
 use running::Running;
 
-// Takes in a whole list, from a result that has taken in none.
+// Takes in a whole list, block by block, from a result that has taken in none.
 fn take_list(
+    start: Running,
     drops: bool,
     card: &[u32],
     c: Counts,
-    firsts: &[u32],
-    lows: &[u32],
-    highs: &[u32],
+    tables: &Tables,
     list: &[u32],
     live: &mut [u32],
-    places: &mut [u32],
-    flips: &mut [u32],
-    caught: &mut [u32],
-    words: &mut [u32],
-    start: Running,
+    marks: &mut [u32],
 ) -> usize
-    requires { ⌜ Listed (now card) c (now list) × Placed (now card) c (now firsts) × Reach (now card) c (now lows) (now highs) × Room c (now live) (now places) (now flips) (now caught)
-        × (start .vector ≡ 0) × Standing drops (now card) c (now live) (now words) start × Graded drops (now card) c (now list) 0 (now words) (now words) ⌝ }
+    requires { ⌜ Listed (now card) c (now list) × Tabled (now card) c (now tables) × (c .graphs ≤ length (now live))
+        × (start .vector ≡ 0) × Standing drops (now card) c (now live) (now marks) start × Graded drops (now card) c (now list) 0 (now marks) (now marks) ⌝ }
     ensures { λ r. ⌜ (r ≡ marked (now (card .entry)) c (now (list .entry)))
-        × (now (words .exit) ≡ over (c .faults) (graded drops (now (card .entry)) c (now (list .entry))) (now (words .entry))) ⌝ }
+        × (now (marks .exit) ≡ over (c .faults) (graded drops (now (card .entry)) c (now (list .entry))) (now (marks .entry))) ⌝ }
 {
-    let inputs = c.inputs;
-    let n = vectors::count_vectors(inputs, list);
+    let w = testvectors::width(c.inputs);
+    let n = testvectors::count_vectors(c.inputs, list);
     let mut r = start;
     let mut t = 0;
     while t < n {
-        let vector = vectors::vector_at(inputs, list, t);
-        r = r.take_in(
+        let end = block::block_end(t, n);
+        r = block::take_block(
+            r,
             drops,
             card,
             c,
-            firsts,
-            lows,
-            highs,
-            vector,
+            tables,
+            &list[t * w..end * w],
             live,
-            places,
-            flips,
-            caught,
-            words,
+            marks,
         );
-        t += 1;
+        t = end;
     }
     r.marked
 }
 
 // Grades an accepted card by a list of vectors: the words of the faults, and how many are marked.
-fn grade_list(drops: bool, card: &[u32], c: Counts, list: &[u32], words: &mut [u32]) -> usize
-    requires { ⌜ Listed (now card) c (now list) × (c .faults ≤ length (now words)) ⌝ }
+fn grade_list(drops: bool, card: &[u32], c: Counts, list: &[u32], marks: &mut [u32]) -> usize
+    requires { ⌜ Listed (now card) c (now list) × (c .faults ≤ length (now marks)) ⌝ }
     ensures { λ r. ⌜ (r ≡ marked (now (card .entry)) c (now (list .entry)))
-        × (now (words .exit) ≡ over (c .faults) (graded drops (now (card .entry)) c (now (list .entry))) (now (words .entry))) ⌝ }
+        × (now (marks .exit) ≡ over (c .faults) (graded drops (now (card .entry)) c (now (list .entry))) (now (marks .entry))) ⌝ }
 {
-    let mut firsts = card::first_table();
-    let mut lows = catches::graph_table();
-    let mut highs = catches::graph_table();
-    let mut live = catches::graph_table();
-    let mut places = catches::place_table();
-    let mut flips = catches::graph_table();
-    let mut caught = catches::place_table();
-    let start = running::begin(
-        drops,
-        card,
-        c,
-        &mut firsts,
-        &mut lows,
-        &mut highs,
-        &mut live,
-        words,
-    );
-    take_list(
-        drops,
-        card,
-        c,
-        &firsts,
-        &lows,
-        &highs,
-        list,
-        &mut live,
-        &mut places,
-        &mut flips,
-        &mut caught,
-        words,
-        start,
-    )
+    let tables = layout::make_tables(card, c);
+    let mut live = layout::graph_table();
+    let start = block::begin(drops, c, &mut live, marks);
+    take_list(start, drops, card, c, &tables, list, &mut live, marks)
+}
+
+// The tests of a grading after the form of its list, for a buffer of `room` words: the room alone.
+pub fn test_grade(c: Counts, room: usize) -> Verdict
+    ensures { λ r. ⌜ r ≡ firstBroken (gradeTests room c) ⌝ }
+{
+    if room < c.faults {
+        return Verdict::Broken(Rule::BufferTooShort, 0);
+    }
+    Verdict::Sound
 }
 
 // Either grading: the refusals in their order, and else the grading.
-fn grade(drops: bool, card: &[u32], list: &[u32], words: &mut [u32]) -> Reply
-    ensures { λ r. ⌜ (r ≡ gradeReply (now (card .entry)) (now (list .entry)) (now (words .entry)))
-        × (now (words .exit) ≡ gradeBuffer drops (now (card .entry)) (now (list .entry)) (now (words .entry))) ⌝ }
+fn grade(drops: bool, card: &[u32], list: &[u32], marks: &mut [u32]) -> Reply
+    ensures { λ r. ⌜ (r ≡ gradeReply (now (card .entry)) (now (list .entry)) (now (marks .entry)))
+        × (now (marks .exit) ≡ gradeBuffer drops (now (card .entry)) (now (list .entry)) (now (marks .entry))) ⌝ }
 {
-    match card::check(card) {
+    match opening::open_list(card, list) {
         Answer::Refused(rule, position) => Reply::Refused(rule, position),
         Answer::Accepted(c) => {
-            let inputs = c.inputs;
-            if let Verdict::Broken(rule, position) = vectors::check_list(inputs, list) {
+            if let Verdict::Broken(rule, position) = test_grade(c, marks.len()) {
                 return Reply::Refused(rule, position);
             }
-            if words.len() < c.faults {
-                return Reply::Refused(Rule::BufferTooShort, 0);
-            }
-            Reply::Done(grade_list(drops, card, c, list, words))
+            Reply::Done(grade_list(drops, card, c, list, marks))
         }
     }
 }

@@ -1,4 +1,2 @@
--- The form of vectors in bytes, lists of them, and one vector at a time.
-pub mod Form
-mod Lists
+-- Blocks of vectors of a list in bytes.
 mod Gradings

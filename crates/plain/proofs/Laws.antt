@@ -1,21 +1,23 @@
 -- The steps of the evaluators, said of the definitions: what is saved, what is read, and where a walk goes on. Assumes nothing.
-use Prim.Native.Nat.{ℕ, _+_, _<_, _≤_}
+use Prim.Native.Nat.{ℕ, _+_, _*_, _<_, _≤_}
 use mathlib.Core.Path.{_≡_, sym, ap, _∙_}
 use mathlib.Core.List.{List}
 use native.Mathlib.Omega.{arith}
 use native.Mathlib.Decide.{ℕ-discrete}
 use lib.ListN.{getD, set, length-set}
 use lib.Seq.{getD-set-same, getD-set-other}
-use Rattle.form.specs.Layout.{first, size}
-use Rattle.form.proofs.Places.{one-place}
-use Rattle.vectors.specs.Vectors.{bit}
+use Rattle.word32.specs.Fields.{readGraph}
+use Rattle.layout.specs.Layout.{first, size, decided, decision}
+use Rattle.layout.proofs.Firsts.{one-place, node-below}
+use Rattle.layout.specs.Tables.{Ready}
+use Rattle.layout.proofs.Places.{walkable, place-is, read-is, decision-is}
+use Rattle.testvectors.specs.Vectors.{bit}
 use Rattle.value.specs.Settings.{faulty}
-use Rattle.value.proofs.Values.{node-below, value-input, value-output}
-use Rattle.value.specs.Run.{Run, graphOf, nodeOf, Ready}
-use Rattle.value.proofs.Run.{first-is}
-use Rattle.plain.specs.Saved.{Saved, Found}
+use Rattle.value.proofs.Values.{value-input, value-output}
+use Rattle.value.specs.Run.{Run, graphOf, nodeOf}
+use Rattle.plain.specs.Saved.{Saved, FoundNode, FoundGraph}
 
-module _ {t : Run} {firsts : List ℕ} (y : Ready t firsts) where
+module _ (t : Run) {firsts : List ℕ} (y : Ready (t .card) (t .counts) firsts) where
   -- a value saved at its place
   pub save-node : {xs : List ℕ} → Saved t xs → (g k v : ℕ) → g < t .counts .graphs → k < size (t .card) g → v ≡ nodeOf t g k
       → Saved t (set xs (first (t .card) g + k) v)
@@ -56,20 +58,31 @@ module _ {t : Run} {firsts : List ℕ} (y : Ready t firsts) where
 
   -- local node k of graph g, whose first node the table gives as f
   module _ {g k f : ℕ} (h : g < t .counts .graphs) (l : k < size (t .card) g) (e : f ≡ getD firsts g 0) where
-    pub node-known : {xs : List ℕ} {r : ℕ} → Saved t xs → r ≡ getD xs (f + k) 0 → r < 2 → Found t (nodeOf t g k) r xs
+    pub node-known : {xs : List ℕ} {r : ℕ} → Saved t xs → r ≡ getD xs (f + k) 0 → r < 2 → FoundNode t g k r xs
     node-known {xs} s q b =
-        let z = q ∙ ap (λ (n : ℕ). getD xs (n + k) 0) (first-is y h l e) in
+        let z = q ∙ ap (λ (n : ℕ). getD xs n 0) (place-is (walkable y h) l e) in
         record { right = z ∙ s .nodes g k h l (rw z at b); saved = s }
 
-    pub node-saved : {xs ys : List ℕ} {v : ℕ} → Saved t xs → v ≡ nodeOf t g k → ys ≡ set xs (f + k) v → Found t (nodeOf t g k) v ys
-    node-saved s w u = record { right = w; saved = rw (u, (first-is y h l e)) (save-node s g k _ h l w) }
+    pub node-saved : {xs ys : List ℕ} {v : ℕ} → Saved t xs → v ≡ nodeOf t g k → ys ≡ set xs (f + k) v → FoundNode t g k v ys
+    node-saved s w u = record { right = w; saved = rw (u, place-is (walkable y h) l e) (save-node s g k _ h l w) }
+
+    -- its decision, once the graph that it reads is found
+    pub decision-found : {r v d : ℕ} {xs : List ℕ} → r ≡ readGraph (getD (t .card) (g + 1 + 2 * (f + k)) 0) → FoundGraph t r v xs
+        → d ≡ decided (getD (t .card) (g + 1 + 2 * (f + k)) 0) (getD xs (t .counts .nodes + readGraph (getD (t .card) (g + 1 + 2 * (f + k)) 0)) 0)
+        → d ≡ decision (t .card) (graphOf t) g k
+    decision-found {r} {v} {d} {xs} q w u =
+        decision-is (walkable y h) l e (graphOf t) xs (t .counts .nodes) u (rw (read-is (walkable y h) l e q) at (w .there))
 
   module _ {g : ℕ} (h : g < t .counts .graphs) where
-    pub graph-known : {xs : List ℕ} {r : ℕ} → Saved t xs → r ≡ getD xs (t .counts .nodes + g) 0 → r < 2 → Found t (graphOf t g) r xs
-    graph-known s q b = record { right = q ∙ s .graphs g h (rw q at b); saved = s }
+    pub graph-known : {xs : List ℕ} {r : ℕ} → Saved t xs → r ≡ getD xs (t .counts .nodes + g) 0 → r < 2 → FoundGraph t g r xs
+    graph-known s q b = let z = s .graphs g h (rw q at b) in record { right = q ∙ z; there = z; saved = s }
 
-    pub graph-saved : {xs ys : List ℕ} {v : ℕ} → Saved t xs → v ≡ graphOf t g → ys ≡ set xs (t .counts .nodes + g) v → Found t (graphOf t g) v ys
-    graph-saved s w u = record { right = w; saved = rw u (save-graph s g _ h w) }
+    pub graph-saved : {xs ys : List ℕ} {v : ℕ} → Saved t xs → v ≡ graphOf t g → ys ≡ set xs (t .counts .nodes + g) v → FoundGraph t g v ys
+    graph-saved {xs} {ys} {v} s w u = record {
+      right = w;
+      there = rw u (getD-set-same xs (t .counts .nodes + g) v 0 (omega (arith, s .long)) ∙ w);
+      saved = rw u (save-graph s g _ h w);
+    }
 
     pub input-value : {b v : ℕ} → g < t .counts .inputs → b ≡ bit (t .vector) g → v ≡ faulty (t .faults) (t .counts .nodes + g) b → v ≡ graphOf t g
     input-value i q w =

@@ -1,4 +1,4 @@
 -- What the proofs of the evaluators and of the calls cite.
 
 mod Laws
-mod Calls
+pub mod Calls

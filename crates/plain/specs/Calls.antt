@@ -6,13 +6,13 @@ use lib.ListN.{length, getD}
 use lib.Dec.{ltb, leb}
 use Rattle.lists.specs.Counting.{some-below}
 use Rattle.lists.specs.Tables.{over}
-use Rattle.form.specs.declared.Counts.{Counts}
-use Rattle.form.specs.declared.Verdict.{Verdict}
-use Rattle.form.specs.declared.Reply.{Reply}
-use Rattle.form.specs.declared.Rule.the-variants.{NumberTooHigh, BufferTooShort}
-use Rattle.form.specs.Check.{test, firstBroken, andThen, checked}
-use Rattle.form.specs.Calls.{replied, written}
-use Rattle.vectors.specs.Vectors.{vectorVerdict}
+use Rattle.answers.specs.declared.Counts.{Counts}
+use Rattle.answers.specs.declared.Reply.{Reply}
+use Rattle.answers.specs.declared.Rule.the-variants.{NumberTooHigh, BufferTooShort}
+use Rattle.answers.specs.Tests.{Test, test}
+use Rattle.form.specs.Check.{checked}
+use Rattle.answers.specs.Calls.{callTests, replied, written}
+use Rattle.testvectors.specs.Vectors.{vectorVerdict}
 use Rattle.value.specs.Settings.{faulty}
 use Rattle.value.specs.Values.{value}
 
@@ -21,19 +21,22 @@ unfoldable pub tooHigh : ℕ → List ℕ → ℕ → Bool
 unfolding some-below
 tooHigh F fs n = some-below (λ i. leb F (getD fs i 0)) n
 
--- a call with the vector x, the faults fs and a buffer of `room` words: the vector's form, the faults' numbers, the buffer's length
-unfoldable pub valuesTests : List ℕ → List ℕ → ℕ → Counts → Verdict
+-- a call's own tests, with the faults fs and a buffer of `room` words: the faults' numbers, the buffer's length
+unfoldable pub valuesTests : List ℕ → ℕ → Counts → List Test
 unfolding tooHigh
-valuesTests x fs room c =
-    andThen (vectorVerdict (c .inputs) x)
-    (firstBroken (test (tooHigh (c .faults) fs (length fs)) NumberTooHigh 0 ∷ test (ltb room (c .graphs)) BufferTooShort 0 ∷ []))
+valuesTests fs room c =
+    test (tooHigh (c .faults) fs (length fs)) NumberTooHigh 0
+    ∷ test (ltb room (c .graphs)) BufferTooShort 0
+    ∷ []
 
 -- with a list of faults in: the reply, and the buffer, whose first G words are the graphs' values
 abbrev pub valuesReply : List ℕ → List ℕ → List ℕ → List ℕ → Reply
-valuesReply ws x fs b = replied (checked ws) (valuesTests x fs (length b)) (λ c. 0)
+valuesReply ws x fs b = replied (checked ws) (λ c. callTests (vectorVerdict (c .inputs) x) (valuesTests fs (length b) c)) (λ c. 0)
 
 abbrev pub valuesBuffer : List ℕ → List ℕ → List ℕ → List ℕ → List ℕ
-valuesBuffer ws x fs b = written (checked ws) (valuesTests x fs (length b)) (λ c. over (c .graphs) (value ws c (faulty fs) x) b) b
+valuesBuffer ws x fs b =
+    written (checked ws) (λ c. callTests (vectorVerdict (c .inputs) x) (valuesTests fs (length b) c))
+    (λ c. over (c .graphs) (value ws c (faulty fs) x) b) b
 
 -- GOOD VALUES: no fault is in
 abbrev pub goodReply : List ℕ → List ℕ → List ℕ → Reply

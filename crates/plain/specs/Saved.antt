@@ -3,7 +3,7 @@ use Prim.Native.Nat.{ℕ, _+_, _<_, _≤_}
 use mathlib.Core.Path.{_≡_}
 use mathlib.Core.List.{List}
 use lib.ListN.{length, getD}
-use Rattle.form.specs.Layout.{first, size}
+use Rattle.layout.specs.Layout.{first, size}
 use Rattle.value.specs.Run.{Run, graphOf, nodeOf}
 
 -- the buffer has a word for each place, and each word below 2 is that place's value
@@ -13,7 +13,13 @@ pub record Saved (t : Run) (xs : List ℕ) : Type 0 where
       → getD xs (first (t .card) g + k) 0 ≡ nodeOf t g k
   pub graphs : (g : ℕ) → g < t .counts .graphs → getD xs (t .counts .nodes + g) 0 < 2 → getD xs (t .counts .nodes + g) 0 ≡ graphOf t g
 
--- what an evaluator hands back: the value, and the buffer with all that was found
-pub record Found (t : Run) (v r : ℕ) (xs : List ℕ) : Type 0 where
-  pub right : r ≡ v
+-- what an evaluator hands back: the value of a node, and the buffer with all that was found
+pub record FoundNode (t : Run) (g k r : ℕ) (xs : List ℕ) : Type 0 where
+  pub right : r ≡ nodeOf t g k
+  pub saved : Saved t xs
+
+-- the same of a graph, whose value stands at its place
+pub record FoundGraph (t : Run) (g r : ℕ) (xs : List ℕ) : Type 0 where
+  pub right : r ≡ graphOf t g
+  pub there : getD xs (t .counts .nodes + g) 0 ≡ graphOf t g
   pub saved : Saved t xs

@@ -4,19 +4,21 @@ ghost use mathlib.Core.Path.{_≡_};
 ghost use Prim.Native.Nat.{ℕ, _≤_, _<_};
 ghost use lib.ListN.{length, getD};
 ghost use Rattle.lists.specs.Tables.{over};
-ghost use Rattle.form.specs.Layout.{size};
-ghost use Rattle.form.specs.Shape.{Shape, Accepts};
-ghost use Rattle.vectors.specs.Vectors.{width};
+ghost use Rattle.answers.specs.Tests.{firstBroken};
+ghost use Rattle.layout.specs.Layout.{size};
+ghost use Rattle.layout.specs.Shape.{Shape};
+ghost use Rattle.layout.specs.Tables.{Ready};
+ghost use Rattle.testvectors.specs.Vectors.{width, Wide};
 ghost use Rattle.value.specs.Settings.{faulty};
 ghost use Rattle.value.specs.Values.{value};
-ghost use Rattle.value.specs.Run.{run, graphOf, nodeOf, Ready};
-ghost use Rattle.plain.specs.Calls.{tooHigh, valuesReply, valuesBuffer, goodReply, goodBuffer, faultReply, faultBuffer};
-ghost use Rattle.plain.specs.Saved.{Saved, Found};
-use form::Answer;
-use form::Counts;
-use form::Reply;
-use form::Rule;
-use form::Verdict;
+ghost use Rattle.value.specs.Run.{run};
+ghost use Rattle.plain.specs.Calls.{tooHigh, valuesTests, valuesReply, valuesBuffer, goodReply, goodBuffer, faultReply, faultBuffer};
+ghost use Rattle.plain.specs.Saved.{Saved, FoundNode, FoundGraph};
+use answers::Answer;
+use answers::Counts;
+use answers::Reply;
+use answers::Rule;
+use answers::Verdict;
 
 // The value of local node k of graph g.
 fn node_value(
@@ -29,27 +31,28 @@ fn node_value(
     k: usize,
     saved: &mut [u32],
 ) -> u32
-    requires { ⌜ Ready (run (now card) c (now faults) (now vector)) (now firsts) × (g < c .graphs) × (k < size (now card) g) × Saved (run (now card) c (now faults) (now vector)) (now saved) ⌝ }
-    ensures { λ r. ⌜ Found (run (now (card .entry)) c (now (faults .entry)) (now (vector .entry))) (nodeOf (run (now (card .entry)) c (now (faults .entry)) (now (vector .entry))) g k) r (now (saved .exit)) ⌝ }
+    requires { ⌜ Ready (now card) c (now firsts) × Wide (c .inputs) (now vector) × (g < c .graphs) × (k < size (now card) g) × Saved (run (now card) c (now faults) (now vector)) (now saved) ⌝ }
+    ensures { λ r. ⌜ FoundNode (run (now (card .entry)) c (now (faults .entry)) (now (vector .entry))) g k r (now (saved .exit)) ⌝ }
 {
-    let j = value::first_node(firsts, g) + k;
+    let j = layout::first_node(firsts, g) + k;
     let known = lists::get(saved, j);
     if known < 2 {
         return known;
     }
-    let read = value::graph_read(card, g, j);
-    let v = graph_value(card, c, firsts, vector, faults, read, saved);
-    let e = value::exit_taken(card, faults, g, k, j, v);
+    let read = layout::graph_read(card, g, j);
+    graph_value(card, c, firsts, vector, faults, read, saved);
+    let d = layout::decision(card, g, j, saved, c.nodes);
+    let e = value::exit_taken(card, faults, g, j, d);
     if e < 2 {
         lists::put(saved, j, e as u32);
         return e as u32;
     }
-    let w = node_value(card, c, firsts, vector, faults, g, e - 2, saved);
-    lists::put(saved, j, w);
-    w
+    let v = node_value(card, c, firsts, vector, faults, g, e - 2, saved);
+    lists::put(saved, j, v);
+    v
 }
 
-// The value of graph g.
+// The value of graph g, which then stands at the graph's place.
 fn graph_value(
     card: &[u32],
     c: Counts,
@@ -59,8 +62,8 @@ fn graph_value(
     g: usize,
     saved: &mut [u32],
 ) -> u32
-    requires { ⌜ Ready (run (now card) c (now faults) (now vector)) (now firsts) × (g < c .graphs) × Saved (run (now card) c (now faults) (now vector)) (now saved) ⌝ }
-    ensures { λ r. ⌜ Found (run (now (card .entry)) c (now (faults .entry)) (now (vector .entry))) (graphOf (run (now (card .entry)) c (now (faults .entry)) (now (vector .entry))) g) r (now (saved .exit)) ⌝ }
+    requires { ⌜ Ready (now card) c (now firsts) × Wide (c .inputs) (now vector) × (g < c .graphs) × Saved (run (now card) c (now faults) (now vector)) (now saved) ⌝ }
+    ensures { λ r. ⌜ FoundGraph (run (now (card .entry)) c (now (faults .entry)) (now (vector .entry))) g r (now (saved .exit)) ⌝ }
 {
     let place = c.nodes + g;
     let known = lists::get(saved, place);
@@ -68,7 +71,7 @@ fn graph_value(
         return known;
     }
     if g < c.inputs {
-        let input = value::set_at(faults, place, vectors::bit(vector, g));
+        let input = value::set_at(faults, place, testvectors::bit(vector, g));
         lists::put(saved, place, input);
         return input;
     }
@@ -90,8 +93,8 @@ pub fn work_out(card: &[u32], c: Counts, vector: &[u32], faults: &[u32], values:
     requires { ⌜ Shape (now card) c × (width (c .inputs) ≤ length (now vector)) × (c .graphs ≤ length (now values)) ⌝ }
     ensures { λ _. ⌜ now (values .exit) ≡ over (c .graphs) (value (now (card .entry)) c (faulty (now (faults .entry))) (now (vector .entry))) (now (values .entry)) ⌝ }
 {
-    let mut firsts = card::first_table();
-    card::first_nodes(card, c, &mut firsts);
+    let mut firsts = layout::first_table();
+    layout::first_nodes(card, c, &mut firsts);
     let mut saved = unknown();
     let mut g = 0;
     while g < c.graphs {
@@ -101,7 +104,7 @@ pub fn work_out(card: &[u32], c: Counts, vector: &[u32], faults: &[u32], values:
 }
 
 // Whether some number of a list is not that of one of so many faults.
-pub fn too_high(count: usize, faults: &[u32]) -> bool
+fn too_high(count: usize, faults: &[u32]) -> bool
     ensures { λ r. ⌜ r ≡ tooHigh count (now (faults .entry)) (length (now (faults .entry))) ⌝ }
 {
     let mut i = 0;
@@ -114,23 +117,29 @@ pub fn too_high(count: usize, faults: &[u32]) -> bool
     false
 }
 
+// The tests of a call for values after the form of its vector, for a buffer of `room` words: the numbers of its faults, and its room.
+pub fn test_values(c: Counts, faults: &[u32], room: usize) -> Verdict
+    ensures { λ r. ⌜ r ≡ firstBroken (valuesTests (now (faults .entry)) room c) ⌝ }
+{
+    if too_high(c.faults, faults) {
+        return Verdict::Broken(Rule::NumberTooHigh, 0);
+    }
+    if room < c.graphs {
+        return Verdict::Broken(Rule::BufferTooShort, 0);
+    }
+    Verdict::Sound
+}
+
 // The values of a card's graphs under a vector, with the faults of a list in, go into the buffer.
 fn values_with(card: &[u32], vector: &[u32], faults: &[u32], values: &mut [u32]) -> Reply
     ensures { λ r. ⌜ (r ≡ valuesReply (now (card .entry)) (now (vector .entry)) (now (faults .entry)) (now (values .entry)))
         × (now (values .exit) ≡ valuesBuffer (now (card .entry)) (now (vector .entry)) (now (faults .entry)) (now (values .entry))) ⌝ }
 {
-    match card::check(card) {
+    match opening::open_vector(card, vector) {
         Answer::Refused(rule, position) => Reply::Refused(rule, position),
         Answer::Accepted(c) => {
-            let inputs = c.inputs;
-            if let Verdict::Broken(rule, position) = vectors::check_vector(inputs, vector) {
+            if let Verdict::Broken(rule, position) = test_values(c, faults, values.len()) {
                 return Reply::Refused(rule, position);
-            }
-            if too_high(c.faults, faults) {
-                return Reply::Refused(Rule::NumberTooHigh, 0);
-            }
-            if values.len() < c.graphs {
-                return Reply::Refused(Rule::BufferTooShort, 0);
             }
             work_out(card, c, vector, faults, values);
             Reply::Done(0)

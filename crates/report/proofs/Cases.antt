@@ -11,18 +11,19 @@ use borrow.Author.Tests.{lt-ltb, le-ltb, eq-eqb, ne-eqb}
 use Rattle.lists.specs.Tables.{over}
 use Rattle.lists.proofs.Tables.{over-at, over-front}
 use Rattle.lists.proofs.Tests.{or-true}
-use Rattle.words.specs.Bytes.{wordAt, wordsOf}
-use Rattle.form.specs.declared.Rule.{Rule}
-use Rattle.form.specs.declared.Counts.{Counts}
-use Rattle.form.specs.declared.Verdict.{Verdict}
-use Rattle.form.specs.declared.Verdict.the-variants.{Sound, Broken}
-use Rattle.form.specs.declared.Answer.the-variants as answer
-use Rattle.form.specs.declared.Reply.the-variants as reply
-use Rattle.form.specs.Answers.{numberOf}
-use Rattle.form.specs.Check.{checked, andThen}
+use Rattle.word32.specs.Bytes.{wordAt, wordsOf}
+use Rattle.answers.specs.declared.Rule.{Rule}
+use Rattle.answers.specs.declared.Counts.{Counts}
+use Rattle.answers.specs.declared.Verdict.{Verdict}
+use Rattle.answers.specs.declared.Verdict.the-variants.{Sound, Broken}
+use Rattle.answers.specs.declared.Answer.the-variants as answer
+use Rattle.answers.specs.declared.Reply.the-variants as reply
+use Rattle.answers.specs.Answers.{numberOf}
+use Rattle.form.specs.Check.{checked}
+use Rattle.answers.specs.Tests.{andThen}
 use Rattle.form.proofs.Checked.{check-accepts}
-use Rattle.form.specs.Calls.{replied, written, doneBy}
-use Rattle.vectors.specs.Vectors.{listVerdict}
+use Rattle.answers.specs.Calls.{callTests, replied, written, doneBy}
+use Rattle.testvectors.specs.Vectors.{listVerdict}
 use Rattle.detect.specs.Grading.{mark, tally, marked}
 use Rattle.grade.specs.Calls.{gradeTests, gradeReply, marksBuffer, talliesBuffer}
 use Rattle.report.specs.Text.{shortLine, longLine, refusedLine, faultLine, faultLines, gradingText}
@@ -115,7 +116,7 @@ module _ (ws xs : List ℕ) where
 
   -- either grading's reply goes by the list's verdict alone where its buffer has room
   module _ {c : Counts} (e : checked ws ≡ answer.Accepted c) (b : List ℕ) (room : c .faults ≤ length b) where
-    tests-are : gradeTests xs (length b) c ≡ listVerdict (c .inputs) xs
+    tests-are : callTests (listVerdict (c .inputs) xs) (gradeTests (length b) c) ≡ listVerdict (c .inputs) xs
     unfolding gradeTests
     tests-are = rw (le-ltb _ _ room) (then-nothing (listVerdict (c .inputs) xs))
       where

@@ -2,11 +2,11 @@
 use Prim.Native.Nat.{ℕ}
 use mathlib.Core.List.{List, [], _∷_, _++_}
 use mathlib.Core.Path.{_≡_, refl}
-use Rattle.words.specs.Bytes.{wordAt, byteOf}
+use Rattle.word32.specs.Bytes.{wordAt, byteOf}
 use Rattle.lists.specs.Tables.{grow, tab}
 use Rattle.form.specs.Check.{checkedWith}
-use Rattle.form.specs.Layout.{observable, isInput, size, exits, reads}
-use Rattle.vectors.specs.Vectors.{bit, listVerdict}
+use Rattle.layout.specs.Layout.{observable, isInput, size, exits, reads, decides}
+use Rattle.testvectors.specs.Vectors.{bit, listVerdict}
 use Rattle.value.specs.Settings.{faulty}
 use Rattle.value.specs.Values.{value}
 use Rattle.detect.specs.Grading.{mark, tally, marked}
@@ -33,5 +33,5 @@ lines =
 
 pub S-text : textOf input ≡ lines
 unfolding textOf gradedText gradingText cardLine faultLine faultLines line decimal digits wordAt byteOf grow checkedWith
-    listVerdict mark tally marked observable isInput size exits reads bit faulty value
+    listVerdict mark tally marked observable isInput size exits reads decides bit faulty value
 S-text = refl

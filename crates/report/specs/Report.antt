@@ -6,15 +6,15 @@ use mathlib.Core.Bool.{not, _||_}
 use lib.ListN.{length, take, drop}
 use lib.Dec.{ltb, eqb}
 use Rattle.lists.specs.Counting.{choose}
-use Rattle.words.specs.Bytes.{wordAt, wordsOf}
-use Rattle.form.specs.declared.Counts.{Counts}
-use Rattle.form.specs.declared.Verdict.{Verdict}
-use Rattle.form.specs.declared.Verdict.the-variants.{Sound, Broken}
-use Rattle.form.specs.declared.Answer.{Answer}
-use Rattle.form.specs.declared.Answer.the-variants.{Accepted, Refused}
-use Rattle.form.specs.Answers.{numberOf}
+use Rattle.word32.specs.Bytes.{wordAt, wordsOf}
+use Rattle.answers.specs.declared.Counts.{Counts}
+use Rattle.answers.specs.declared.Verdict.{Verdict}
+use Rattle.answers.specs.declared.Verdict.the-variants.{Sound, Broken}
+use Rattle.answers.specs.declared.Answer.{Answer}
+use Rattle.answers.specs.declared.Answer.the-variants.{Accepted, Refused}
+use Rattle.answers.specs.Answers.{numberOf}
 use Rattle.form.specs.Check.{checked}
-use Rattle.vectors.specs.Vectors.{listVerdict}
+use Rattle.testvectors.specs.Vectors.{listVerdict}
 use Rattle.detect.specs.Grading.{mark, tally, marked}
 use Rattle.report.specs.Text.{either, shortLine, longLine, refusedLine, gradingText}
 

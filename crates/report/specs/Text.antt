@@ -3,7 +3,7 @@ use Prim.Native.Nat.{ℕ, zero, suc, _+_, _-_, _/_, _%_}
 use mathlib.Core.List.{List, [], _∷_, _++_}
 use mathlib.Core.Bool.{Bool, true, false}
 use lib.Dec.{ltb, eqb}
-use Rattle.form.specs.declared.Counts.{Counts}
+use Rattle.answers.specs.declared.Counts.{Counts}
 
 -- the first of two texts where the test holds, else the second
 abbrev pub either : Bool → List ℕ → List ℕ → List ℕ

@@ -4,15 +4,15 @@ ghost use mathlib.Core.List.{_∷_, []};
 ghost use Prim.Native.Nat.{_+_, _*_, _-_, _/_, _<_, _≤_};
 ghost use lib.ListN.{length, getD};
 ghost use Rattle.lists.specs.Tables.{front};
-ghost use Rattle.words.specs.Bytes.{wordsOf};
+ghost use Rattle.word32.specs.Bytes.{wordsOf};
 ghost use Rattle.form.specs.Check.{checked};
-ghost use Rattle.form.specs.declared.Answer.the-variants.{Accepted};
+ghost use Rattle.answers.specs.declared.Answer.the-variants.{Accepted};
 ghost use Rattle.report.specs.Text.{decimal, field, markField, countFields, cardLine, faultLine, faultLines, line, gradingText, refusedLine};
 ghost use Rattle.report.specs.Report.{wordCount, gradedText, textOf, bytesWanted};
 ghost use Rattle.report.specs.Puts.{Puts};
-use form::Answer;
-use form::Counts;
-use form::Reply;
+use answers::Answer;
+use answers::Counts;
+use answers::Reply;
 
 // Bytes go to a position of the buffer; the result is the position after them.
 fn put(out: &mut [u8], at: usize, bytes: &[u8]) -> usize
@@ -168,7 +168,7 @@ fn report_accepted(card: &[u32], c: Counts, vectors: &[u32], out: &mut [u8]) -> 
 {
     let mut marks = fault_room();
     match grade::first_marking(card, vectors, &mut marks) {
-        Reply::Refused(rule, position) => put_refused(out, form::rule_number(rule), position),
+        Reply::Refused(rule, position) => put_refused(out, answers::rule_number(rule), position),
         Reply::Done(marked) => {
             let mut tallies = fault_room();
             grade::tally(card, vectors, &mut tallies);
@@ -182,8 +182,8 @@ fn report_words(card: &[u32], vectors: &[u32], out: &mut [u8]) -> usize
     requires { ⌜ 286880 ≤ length (now out) ⌝ }
     ensures { λ r. ⌜ Puts (now (out .entry)) 0 (gradedText (now (card .entry)) (now (vectors .entry))) r (now (out .exit)) ⌝ }
 {
-    match card::check(card) {
-        Answer::Refused(rule, position) => put_refused(out, form::rule_number(rule), position),
+    match cardcheck::check(card) {
+        Answer::Refused(rule, position) => put_refused(out, answers::rule_number(rule), position),
         Answer::Accepted(c) => report_accepted(card, c, vectors, out),
     }
 }
@@ -207,9 +207,9 @@ fn report_parts(card: &[u8], vectors: &[u8], out: &mut [u8]) -> usize
     ensures { λ r. ⌜ Puts (now (out .entry)) 0 (gradedText (wordsOf (now (card .entry))) (wordsOf (now (vectors .entry)))) r (now (out .exit)) ⌝ }
 {
     let mut card_words = card_room();
-    let n = words::words_of(card, &mut card_words);
+    let n = word32::words_of(card, &mut card_words);
     let mut vector_words = vector_room();
-    let v = words::words_of(vectors, &mut vector_words);
+    let v = word32::words_of(vectors, &mut vector_words);
     report_words(&card_words[..n], &vector_words[..v], out)
 }
 
@@ -244,7 +244,7 @@ pub fn report(input: &[u8], out: &mut [u8]) -> usize
     if input.len() < 4 {
         return put(out, 0, b"short\n");
     }
-    report_counted(input, words::word_at(input, 0) as usize, out)
+    report_counted(input, word32::word_at(input, 0) as usize, out)
 }
 
 // How many bytes decide, given the first four or, where there are fewer, all.
@@ -254,7 +254,7 @@ pub fn wanted(input: &[u8]) -> usize
     if input.len() < 4 {
         return 4;
     }
-    let n = words::word_at(input, 0) as usize;
+    let n = word32::word_at(input, 0) as usize;
     if 9216 < n {
         return 4;
     }

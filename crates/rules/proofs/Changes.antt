@@ -10,12 +10,12 @@ use Rattle.lists.specs.Counting.{choose}
 use Rattle.lists.specs.Tables.{Net, at, grow}
 use Rattle.lists.proofs.Tests.{and-differ, agree, choose-bit, some-same, none-has}
 use Rattle.lists.proofs.Net.{Lower, Solves, Same, unique, grow-more, grow-solves, held, held-here, held-off, held-lower, held-solves, held-below, one-held, none-altered}
-use Rattle.form.specs.declared.Counts.{Counts}
-use Rattle.form.specs.Layout.{isInput, size, reads, exits}
-use Rattle.form.specs.Shape.{Shape}
-use Rattle.vectors.specs.Vectors.{bit}
+use Rattle.answers.specs.declared.Counts.{Counts}
+use Rattle.layout.specs.Layout.{isInput, size, reads, exits, decides}
+use Rattle.layout.specs.Shape.{Shape}
+use Rattle.testvectors.specs.Vectors.{bit}
 use Rattle.value.specs.Settings.{Setting, good}
-use Rattle.value.specs.Values.{decides, taken, graph, value}
+use Rattle.value.specs.Values.{taken, graph, value}
 use Rattle.value.proofs.Settings.{Keeps, good-keeps}
 use Rattle.value.proofs.Values.{Spares, taken-later, graph-lower, value-solves, graph-bit, value-bit, graph-spared}
 use Rattle.detect.specs.Detects.{goodValue}

@@ -8,23 +8,19 @@ use native.Mathlib.Decide.{ℕ-discrete}
 use lib.Dec.{eqb}
 use Rattle.lists.proofs.Tests.{and-none, and-all, regroup, differ, agree, two-values}
 use Rattle.lists.proofs.Net.{Same}
-use Rattle.form.specs.declared.Counts.{Counts}
-use Rattle.form.specs.Layout.{first, observable, size, reads, exits}
-use Rattle.form.specs.Shape.{Shape}
+use Rattle.answers.specs.declared.Counts.{Counts}
+use Rattle.layout.specs.Layout.{first, observable, size, reads, exits, decision}
+use Rattle.layout.specs.Shape.{Shape}
+use Rattle.layout.proofs.Firsts.{node-below, decides-bit}
 use Rattle.value.specs.Settings.{Setting, good, faulty}
-use Rattle.value.specs.Values.{follow, walk, decides, decision, taken, graph}
+use Rattle.value.specs.Values.{follow, walk, taken, graph}
 use Rattle.value.proofs.Settings.{faulty-keeps, stuck-here, stuck-off}
-use Rattle.value.proofs.Values.{Spares, node-below, no-input, taken-later, graph-spares, node-spares}
+use Rattle.value.proofs.Values.{Spares, no-input, taken-later, graph-spares, node-spares}
 use Rattle.detect.specs.Detects.{goodValue, faultValue, detects}
 use Rattle.detect.proofs.Detects.{observed-same, observed-none, observed-has}
 use Rattle.rules.specs.Rules.{active, flipped, listed, critical, exitValue, criticalNode, marksNode, marksGraph}
 use Rattle.rules.proofs.Meets.{idle, forced}
 use Rattle.rules.proofs.Changes.{good-solves, good-bit, flipped-here, setting-none, setting-flips}
-
--- a node's decision is 0 or 1
-pub decides-bit : (ws : List ℕ) (g k r : ℕ) → r < 2 → decides ws g k r < 2
-unfolding decides
-decides-bit ws g k r h = h
 
 -- one fault alone
 abbrev one : ℕ → Setting

@@ -5,10 +5,9 @@ use mathlib.Core.List.{List}
 use mathlib.Core.Bool.{not}
 use native.Mathlib.Omega.{arith}
 use lib.Dec.{eqb}
-use Rattle.form.specs.declared.Counts.{Counts}
-use Rattle.form.specs.Layout.{first, size}
-use Rattle.form.specs.Shape.{Shape}
-use Rattle.value.specs.Values.{decision}
+use Rattle.answers.specs.declared.Counts.{Counts}
+use Rattle.layout.specs.Layout.{first, size, decision}
+use Rattle.layout.specs.Shape.{Shape}
 use Rattle.detect.specs.Detects.{goodValue, detects, opposite, changes, decisionOf, otherExit, criticalAt}
 use Rattle.detect.proofs.Places.{stands-in}
 use Rattle.rules.specs.Rules.{listed, criticalNode, marksNode, marksGraph}

@@ -5,10 +5,10 @@ use mathlib.Core.Bool.{Bool, false, not, _&&_, _||_}
 use lib.Dec.{eqb}
 use Rattle.lists.specs.Counting.{choose, some-below}
 use Rattle.lists.specs.Tables.{Net, at, grow}
-use Rattle.form.specs.declared.Counts.{Counts}
-use Rattle.form.specs.Layout.{first, size, reads, exits}
+use Rattle.answers.specs.declared.Counts.{Counts}
+use Rattle.layout.specs.Layout.{size, reads, exits, decision}
 use Rattle.value.specs.Settings.{good}
-use Rattle.value.specs.Values.{follow, walk, decides, decision, taken, graph, value, nodeValue}
+use Rattle.value.specs.Values.{follow, taken, graph, nodeValue}
 use Rattle.detect.specs.Detects.{observed, goodValue}
 
 -- the test f at the node that exit e names

@@ -1,29 +1,29 @@
 -- The words of faults, and how many are not blank, with no card in it. For both gradings. Assumes nothing.
-use Prim.Native.Nat.{ℕ, zero, suc, _+_, _*_, _<_, _≤_}
+use Prim.Native.Nat.{ℕ, zero, suc, _+_, _*_, _/_, _%_, _<_, _≤_}
 use mathlib.Core.Path.{_≡_, refl, sym, ap, ap₂, _∙_}
 use mathlib.Core.List.{List}
 use mathlib.Core.Bool.{Bool, true, false, not, _&&_, true≢false, false≢true}
 use native.Mathlib.Omega.{arith}
 use native.Mathlib.Decide.{ℕ-discrete, decLt}
 use native.Mathlib.Nat.{add-zero}
-use native.Mathlib.Numerals.{add-one}
-use lib.ListN.{length, getD, set, length-set}
+use lib.ListN.{length, getD, set}
 use lib.Seq.{getD-set-same, getD-set-other}
 use lib.Dec.{ltb, eqb}
 use borrow.Author.Tests.{eq-eqb, ne-eqb, lt-ltb, le-ltb, ltb-true}
 use Rattle.lists.specs.Counting.{choose, count}
 use Rattle.lists.proofs.Counting.{count-same, count-le}
 use Rattle.lists.proofs.Tests.{differ}
-use Rattle.running.specs.Running.{blank, caughtWord, after, putIf, found, Put, Folded, Small}
+use Rattle.running.specs.declared.Running.{Running}
+use Rattle.running.specs.Running.{blank, caughtWord, after, putIf, found, Put, Folded, Small, Counted}
 
 -- the word of a fault that vector t catches
 pub counts : (b : Bool) (t w : ℕ) → b ≡ false → w + 1 ≡ caughtWord b t w
 counts true t w e = absurd (true≢false e)
 counts false t w e = refl
 
-pub marks : (b : Bool) (t w : ℕ) → b ≡ true → w ≡ 0xC0000000 → 0xE0000000 + t ≡ caughtWord b t w
-marks true t w e z = rw (eq-eqb w 0xC0000000 z)
-marks false t w e z = absurd (false≢true e)
+pub first-mark : (b : Bool) (t w : ℕ) → b ≡ true → w ≡ 0xC0000000 → 0xE0000000 + t ≡ caughtWord b t w
+first-mark true t w e z = rw (eq-eqb w 0xC0000000 z)
+first-mark false t w e z = absurd (false≢true e)
 
 pub keeps : (b : Bool) (t w : ℕ) → b ≡ true → (w ≡ 0xC0000000 → ⊥) → w ≡ caughtWord b t w
 keeps true t w e n = rw (ne-eqb w 0xC0000000 n)
@@ -33,7 +33,7 @@ keeps false t w e n = absurd (false≢true e)
 not-blank : (b : Bool) (t w : ℕ) → caughtWord b t w ≡ blank b → ⊥
 not-blank true t w e = elim (ℕ-discrete w 0xC0000000) [
   | yes z ↦
-      let q : 0xE0000000 + t ≡ 0xC0000000 = marks true t w refl z ∙ e in
+      let q : 0xE0000000 + t ≡ 0xC0000000 = first-mark true t w refl z ∙ e in
       omega arith
   | no n ↦ n (keeps true t w refl n ∙ e)
 ]
@@ -139,3 +139,22 @@ module _ {drops : Bool} {t : ℕ} where
 pub found-few : (drops : Bool) (ys : List ℕ) (n : ℕ) → found drops ys n ≤ n
 unfolding found
 found-few drops ys n = count-le (λ f. not (eqb (getD ys f 0) (blank drops))) n
+
+-- one vector taken in: the next result counts the words after it
+small-after : (drops b : Bool) (t w : ℕ) → drops ≡ false → w ≤ t → after drops t b w ≤ t + 1
+small-after true b t w e l = absurd (true≢false e)
+small-after false true t w e l = omega arith
+small-after false false t w e l = omega arith
+
+pub counted-next : {drops : Bool} {n m : ℕ} {r : Running} {cs xs ys : List ℕ} → Counted drops (2 * n) xs r → Folded drops (r .vector) n cs xs ys → length ys ≡ length xs
+    → m ≡ found drops ys (2 * n) → Counted drops (2 * n) ys (record { vector = r .vector + 1; marked = m })
+counted-next {drops} {n} {m} {r} {cs} {xs} {ys} s w l e = record {
+  long = omega (arith, s .long);
+  number = e;
+  small = record {
+    word = λ z f o h.
+        let q : 2 * (f / 2) + f % 2 ≡ f = omega arith in
+        let k = rw q at (w .word (f / 2) (f % 2) (omega arith) (omega arith)) in
+        rw k (small-after drops (eqb (getD cs (f / 2) 0) (f % 2)) (r .vector) (getD xs f 0) z (s .small .word z f o h));
+  };
+}

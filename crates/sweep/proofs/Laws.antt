@@ -1,21 +1,22 @@
 -- The steps of the sweep, said of the definitions: what an exit gives, and how a store at a node's or a graph's place takes the sweep on. Assumes nothing.
 use Prim.Native.Nat.{ℕ, zero, suc, _+_, _-_, _*_, _<_, _≤_}
 use mathlib.Core.Path.{_≡_, refl, sym, ap, _∙_}
-use mathlib.Core.List.{List, []}
+use mathlib.Core.List.{List}
 use native.Mathlib.Omega.{arith}
 use native.Mathlib.Decide.{ℕ-discrete, decLt}
 use lib.ListN.{length, getD, set, length-set}
 use lib.Seq.{getD-set-same, getD-set-other}
-use Rattle.words.specs.Fields.{readGraph}
-use Rattle.form.specs.declared.Counts.{Counts}
-use Rattle.form.specs.Layout.{first, size, exits}
-use Rattle.form.proofs.Places.{apart}
-use Rattle.vectors.specs.Vectors.{bit}
-use Rattle.value.specs.Settings.{good, faulty}
-use Rattle.value.specs.Values.{follow, decides, value, nodeValue}
-use Rattle.value.specs.Run.{run, Ready}
-use Rattle.value.proofs.Values.{node-below, value-input, value-output}
-use Rattle.value.proofs.Run.{first-is, read-below, node-ends, node-goes, some-node}
+use Rattle.word32.specs.Fields.{readGraph, exitOf}
+use Rattle.answers.specs.declared.Counts.{Counts}
+use Rattle.layout.specs.Layout.{first, size, reads, decided, decision}
+use Rattle.layout.proofs.Firsts.{apart, node-below}
+use Rattle.layout.specs.Tables.{Ready}
+use Rattle.layout.proofs.Places.{walkable, some-node, first-is, decision-is}
+use Rattle.testvectors.specs.Vectors.{bit}
+use Rattle.value.specs.Settings.{good}
+use Rattle.value.specs.Values.{follow, value, nodeValue}
+use Rattle.value.proofs.Values.{value-input, value-output}
+use Rattle.value.proofs.Run.{node-ends, node-goes}
 use Rattle.sweep.specs.Swept.{Swept, Partly}
 
 -- an exit that is a constant, and one that is a later node
@@ -37,57 +38,46 @@ none-swept l = record { long = l; nodes = λ g k h i. absurd (omega arith); grap
 pub none-later : {ws : List ℕ} {c : Counts} {x xs : List ℕ} {g n : ℕ} → Swept ws c x g xs → n ≡ size ws g → Partly ws c x g n xs
 none-later s e = record { done = s; later = λ i h l. absurd (omega arith) }
 
-module _ {ws : List ℕ} {c : Counts} {x firsts : List ℕ} (y : Ready (run ws c [] x) firsts) where
-  -- local node k of graph g, whose first node the table gives as f, where the values of the later nodes are there
-  module _ {g k f : ℕ} (h : g < c .graphs) (l : k < size ws g) (e : f ≡ getD firsts g 0) {xs : List ℕ} (p : Partly ws c x g (k + 1) xs) where
-    pub read-inside : {r : ℕ} → r ≡ readGraph (getD ws (g + 1 + 2 * (f + k)) 0) → c .nodes + r < length xs
-    read-inside q = omega (arith, read-below y h l e q, p .done .long)
+module _ {ws firsts : List ℕ} {c : Counts} (y : Ready ws c firsts) where
+  -- local node k of graph g, whose first node the table gives as f: its decision d and its exit a, where the values of the lower graphs and of the later nodes are there
+  module _ {g k f : ℕ} (h : g < c .graphs) (l : k < size ws g) (e : f ≡ getD firsts g 0) where
+    module _ (x xs : List ℕ) {d a : ℕ} (q : d ≡ decided (getD ws (g + 1 + 2 * (f + k)) 0) (getD xs (c .nodes + readGraph (getD ws (g + 1 + 2 * (f + k)) 0)) 0))
+        (u : a ≡ exitOf (getD ws (g + 2 + 2 * (f + k)) 0) d) (p : Partly ws c x g (k + 1) xs) where
+      decision-good : d ≡ decision ws (value ws c good x) g k
+      decision-good = decision-is (walkable y h) l e (value ws c good x) xs (c .nodes) q (p .done .graphs (reads ws g k) (y .shape .reads-lower g h k l))
 
-    pub read-good : {r v : ℕ} → r ≡ readGraph (getD ws (g + 1 + 2 * (f + k)) 0) → v ≡ getD xs (c .nodes + r) 0 → v ≡ value ws c (faulty []) x r
-    unfolding faulty
-    read-good {r} q w = w ∙ p .done .graphs r (read-below y h l e q)
-
-    -- the exit taken, where v is at the place of the graph read
-    module _ {r v a : ℕ} (q : r ≡ readGraph (getD ws (g + 1 + 2 * (f + k)) 0)) (w : v ≡ getD xs (c .nodes + r) 0)
-        (u : a ≡ exits ws g k (faulty [] (first ws g + k) (decides ws g k v))) where
-      pub exit-inside : 2 ≤ a → f + (a - 2) < length xs
-      exit-inside b =
-          let n = node-goes y h l e q (read-good q w) u b in
-          omega (arith, first-is y h l e, node-below (y .shape) g (a - 2) h (n .1), p .done .long)
-
-      pub exit-good : {d : ℕ} → d ≡ follow (λ i. getD xs (f + i) 0) a → d ≡ nodeValue ws c good x g k
-      unfolding faulty
+      exit-good : {b : ℕ} → b ≡ follow (λ i. getD xs (f + i) 0) a → b ≡ nodeValue ws c good x g k
       exit-good z = elim (decLt a 2) [
-        | yes b ↦ z ∙ sym (follow-low _ a b) ∙ node-ends y h l e q (read-good q w) u b
+        | yes b ↦ z ∙ sym (follow-low _ a b) ∙ node-ends y h l e good x decision-good u b
         | no m ↦
             let b : 2 ≤ a = omega arith in
-            let n = node-goes y h l e q (read-good q w) u b in
+            let n = node-goes y h l e good x decision-good u b in
             z ∙ sym (follow-high (λ i. getD xs (f + i) 0) a b)
-            ∙ ap (λ (i : ℕ). getD xs (i + (a - 2)) 0) (first-is y h l e)
+            ∙ ap (λ (i : ℕ). getD xs (i + (a - 2)) 0) (first-is (walkable y h) e)
             ∙ p .later (a - 2) (omega (arith, n .0)) (n .1)
             ∙ sym (n .2)
       ]
 
       -- THE NODE'S STORE
-      pub node-stored : {d : ℕ} {ys : List ℕ} → d ≡ follow (λ i. getD xs (f + i) 0) a → ys ≡ set xs (f + k) d → Partly ws c x g k ys
-      node-stored {d} z o =
+      pub node-stored : {b : ℕ} {ys : List ℕ} → b ≡ follow (λ i. getD xs (f + i) 0) a → ys ≡ set xs (f + k) b → Partly ws c x g k ys
+      node-stored {b} z o =
           let j = first ws g + k in
           let low : j < c .nodes = node-below (y .shape) g k h l in
-          rw (o, first-is y h l e) (record {
+          rw (o, first-is (walkable y h) e) (record {
             done = record {
               long = simp length-set (p .done .long);
               nodes = λ i m h′ l′.
-                  getD-set-other xs j (first ws i + m) d 0 (λ s. apart ws g i k m (λ t. omega arith) l l′ (sym s))
+                  getD-set-other xs j (first ws i + m) b 0 (λ s. apart ws g i k m (λ t. omega arith) l l′ (sym s))
                   ∙ p .done .nodes i m h′ l′;
-              graphs = λ i h′. getD-set-other xs j (c .nodes + i) d 0 (λ s. omega arith) ∙ p .done .graphs i h′;
+              graphs = λ i h′. getD-set-other xs j (c .nodes + i) b 0 (λ s. omega arith) ∙ p .done .graphs i h′;
             };
-            later = λ i b m. elim (ℕ-discrete i k) [
-              | yes s ↦ rw s (getD-set-same xs j d 0 (omega (arith, p .done .long)) ∙ exit-good z)
-              | no n ↦ getD-set-other xs j (first ws g + i) d 0 (λ s. n (omega arith)) ∙ p .later i (omega arith) m
+            later = λ i t m. elim (ℕ-discrete i k) [
+              | yes s ↦ rw s (getD-set-same xs j b 0 (omega (arith, p .done .long)) ∙ exit-good z)
+              | no n ↦ getD-set-other xs j (first ws g + i) b 0 (λ s. n (omega arith)) ∙ p .later i (omega arith) m
             ];
           })
 
-  module _ {g : ℕ} (h : g < c .graphs) where
+  module _ {g : ℕ} (h : g < c .graphs) {x : List ℕ} where
     -- THE GRAPH'S STORE, where the values of its nodes are there
     pub graph-stored : {v : ℕ} {xs ys : List ℕ} → Partly ws c x g 0 xs → v ≡ value ws c good x g → ys ≡ set xs (c .nodes + g) v → Swept ws c x (g + 1) ys
     graph-stored {v} {xs} p e o =
@@ -118,12 +108,12 @@ module _ {ws : List ℕ} {c : Counts} {x firsts : List ℕ} (y : Ready (run ws c
       pub entrance-inside : f < length xs
       entrance-inside =
           let n = some-node y h i in
-          omega (arith, first-is y h n e, node-below (y .shape) g 0 h n, p .done .long)
+          omega (arith, first-is (walkable y h) e, node-below (y .shape) g 0 h n, p .done .long)
 
       pub output-stored : {v : ℕ} {ys : List ℕ} → v ≡ getD xs f 0 → ys ≡ set xs (c .nodes + g) v → Swept ws c x (g + 1) ys
       output-stored u o =
           let n = some-node y h i in
-          let z : f ≡ first ws g + 0 = omega (arith, first-is y h n e) in
+          let z : f ≡ first ws g + 0 = omega (arith, first-is (walkable y h) e) in
           graph-stored p
           (u ∙ ap (λ (m : ℕ). getD xs m 0) z ∙ p .later 0 (omega arith) n
           ∙ sym (value-output (y .shape) good x g h (y .shape .output g h i .0)))

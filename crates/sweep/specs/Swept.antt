@@ -3,8 +3,8 @@ use Prim.Native.Nat.{ℕ, _+_, _<_, _≤_}
 use mathlib.Core.Path.{_≡_}
 use mathlib.Core.List.{List}
 use lib.ListN.{length, getD}
-use Rattle.form.specs.declared.Counts.{Counts}
-use Rattle.form.specs.Layout.{first, size}
+use Rattle.answers.specs.declared.Counts.{Counts}
+use Rattle.layout.specs.Layout.{first, size}
 use Rattle.value.specs.Settings.{good}
 use Rattle.value.specs.Values.{value, nodeValue}
 

@@ -1,65 +1,48 @@
 // The good values of all nodes and graphs of a card under one vector, in one sweep: graphs from the first to the last, in each its nodes from the last to the first.
 ghost use mathlib.Core.Path.{_≡_};
-ghost use mathlib.Core.List.{[]};
-ghost use Prim.Native.Nat.{_+_, _-_, _≤_, _<_};
+ghost use mathlib.Core.List.{List};
+ghost use Prim.Native.Nat.{ℕ, _+_, _-_, _≤_, _<_};
 ghost use lib.ListN.{length, getD};
-ghost use Rattle.form.specs.Layout.{size};
+ghost use Rattle.layout.specs.Layout.{size};
+ghost use Rattle.layout.specs.Tables.{Ready};
+ghost use Rattle.testvectors.specs.Vectors.{Wide};
 ghost use Rattle.value.specs.Values.{follow};
-ghost use Rattle.value.specs.Run.{run, Ready};
 ghost use Rattle.sweep.specs.Swept.{Swept, Partly};
-use form::Counts;
+use answers::Counts;
 
 // The good value of exit e of a graph whose first node is `first`: a constant, or that of a later node, which is there already.
-pub fn exit_value(places: &[u32], first: usize, e: usize) -> u32
-    requires { ⌜ (2 ≤ e → first + (e - 2) < length (now places)) ⌝ }
-    ensures { λ r. ⌜ r ≡ follow (λ l. getD (now (places .entry)) (first + l) 0) e ⌝ }
+pub fn exit_value(values: &[u32], first: usize, e: usize) -> u32
+    requires { ⌜ (2 ≤ e → first + (e - 2) < length (now values)) ⌝ }
+    ensures { λ r. ⌜ r ≡ follow (λ l. getD (now (values .entry)) (first + l) 0) e ⌝ }
 {
     if e < 2 {
         return e as u32;
     }
-    lists::get(places, first + (e - 2))
+    lists::get(values, first + (e - 2))
 }
 
-// The value of local node k of graph g goes to its place, where those of the later nodes are.
-fn sweep_node(
-    card: &[u32],
-    c: Counts,
-    firsts: &[u32],
-    vector: &[u32],
-    g: usize,
-    k: usize,
-    places: &mut [u32],
-)
-    requires { ⌜ Ready (run (now card) c [] (now vector)) (now firsts) × (g < c .graphs) × (k < size (now card) g) × Partly (now card) c (now vector) g (k + 1) (now places) ⌝ }
-    ensures { λ _. ⌜ Partly (now (card .entry)) c (now (vector .entry)) g k (now (places .exit)) ⌝ }
+// The value of local node k of graph g goes to its place, where those of the later nodes are. No bit of a vector is read: it promises so for each.
+fn sweep_node(card: &[u32], c: Counts, firsts: &[u32], g: usize, k: usize, values: &mut [u32])
+    requires { ⌜ Ready (now card) c (now firsts) × (g < c .graphs) × (k < size (now card) g) × (c .nodes + c .graphs ≤ length (now values)) ⌝ }
+    ensures { λ _. ⌜ ((x : List ℕ) → Partly (now (card .entry)) c x g (k + 1) (now (values .entry)) → Partly (now (card .entry)) c x g k (now (values .exit))) ⌝ }
 {
-    let none = [0u32; 1];
-    let first = value::first_node(firsts, g);
+    let first = layout::first_node(firsts, g);
     let j = first + k;
-    let read = value::graph_read(card, g, j);
-    let v = lists::get(places, c.nodes + read);
-    let e = value::exit_taken(card, &none[..0], g, k, j, v);
-    let w = exit_value(places, first, e);
-    lists::put(places, j, w);
+    let d = layout::decision(card, g, j, values, c.nodes);
+    let e = layout::exit_at(card, g, j, d);
+    let v = exit_value(values, first, e);
+    lists::put(values, j, v);
 }
 
 // All nodes of graph g, of which there are n.
-fn sweep_nodes(
-    card: &[u32],
-    c: Counts,
-    firsts: &[u32],
-    vector: &[u32],
-    g: usize,
-    n: usize,
-    places: &mut [u32],
-)
-    requires { ⌜ Ready (run (now card) c [] (now vector)) (now firsts) × (g < c .graphs) × (n ≡ size (now card) g) × Swept (now card) c (now vector) g (now places) ⌝ }
-    ensures { λ _. ⌜ Partly (now (card .entry)) c (now (vector .entry)) g 0 (now (places .exit)) ⌝ }
+fn sweep_nodes(card: &[u32], c: Counts, firsts: &[u32], g: usize, n: usize, values: &mut [u32])
+    requires { ⌜ Ready (now card) c (now firsts) × (g < c .graphs) × (n ≡ size (now card) g) × (c .nodes + c .graphs ≤ length (now values)) ⌝ }
+    ensures { λ _. ⌜ ((x : List ℕ) → Swept (now (card .entry)) c x g (now (values .entry)) → Partly (now (card .entry)) c x g 0 (now (values .exit))) ⌝ }
 {
     let mut k = n;
     while 0 < k {
         k -= 1;
-        sweep_node(card, c, firsts, vector, g, k, places);
+        sweep_node(card, c, firsts, g, k, values);
     }
 }
 
@@ -70,31 +53,31 @@ fn sweep_graph(
     firsts: &[u32],
     vector: &[u32],
     g: usize,
-    places: &mut [u32],
+    values: &mut [u32],
 )
-    requires { ⌜ Ready (run (now card) c [] (now vector)) (now firsts) × (g < c .graphs) × Swept (now card) c (now vector) g (now places) ⌝ }
-    ensures { λ _. ⌜ Swept (now (card .entry)) c (now (vector .entry)) (g + 1) (now (places .exit)) ⌝ }
+    requires { ⌜ Ready (now card) c (now firsts) × Wide (c .inputs) (now vector) × (g < c .graphs) × Swept (now card) c (now vector) g (now values) ⌝ }
+    ensures { λ _. ⌜ Swept (now (card .entry)) c (now (vector .entry)) (g + 1) (now (values .exit)) ⌝ }
 {
     let place = c.nodes + g;
     if g < c.inputs {
-        lists::put(places, place, vectors::bit(vector, g));
+        lists::put(values, place, testvectors::bit(vector, g));
         return;
     }
-    let first = value::first_node(firsts, g);
-    let next = value::first_node(firsts, g + 1);
-    sweep_nodes(card, c, firsts, vector, g, next - first, places);
-    let v = lists::get(places, first);
-    lists::put(places, place, v);
+    let first = layout::first_node(firsts, g);
+    let next = layout::first_node(firsts, g + 1);
+    sweep_nodes(card, c, firsts, g, next - first, values);
+    let v = lists::get(values, first);
+    lists::put(values, place, v);
 }
 
 // All graphs.
-pub fn sweep(card: &[u32], c: Counts, firsts: &[u32], vector: &[u32], places: &mut [u32])
-    requires { ⌜ Ready (run (now card) c [] (now vector)) (now firsts) × (c .nodes + c .graphs ≤ length (now places)) ⌝ }
-    ensures { λ _. ⌜ Swept (now (card .entry)) c (now (vector .entry)) (c .graphs) (now (places .exit)) ⌝ }
+pub fn sweep(card: &[u32], c: Counts, firsts: &[u32], vector: &[u32], values: &mut [u32])
+    requires { ⌜ Ready (now card) c (now firsts) × Wide (c .inputs) (now vector) × (c .nodes + c .graphs ≤ length (now values)) ⌝ }
+    ensures { λ _. ⌜ Swept (now (card .entry)) c (now (vector .entry)) (c .graphs) (now (values .exit)) ⌝ }
 {
     let mut g = 0;
     while g < c.graphs {
-        sweep_graph(card, c, firsts, vector, g, places);
+        sweep_graph(card, c, firsts, vector, g, values);
         g += 1;
     }
 }

@@ -10,14 +10,14 @@ use Rattle.lists.specs.Tables.{at, grow, tab}
 use Rattle.lists.proofs.Tests.{choose-bit}
 use Rattle.lists.proofs.Net.{Lower, Solves, Same, unique, length-grow, grow-more, grow-solves}
 use Rattle.lists.proofs.Tables.{tab-same, tab-self}
-use Rattle.form.specs.declared.Counts.{Counts}
-use Rattle.form.specs.Layout.{first, isInput, size, reads, exits}
-use Rattle.form.specs.Shape.{Shape}
-use Rattle.form.proofs.Places.{first-above, apart}
-use Rattle.vectors.specs.Vectors.{bit}
-use Rattle.vectors.proofs.Laws.{bit-value}
+use Rattle.answers.specs.declared.Counts.{Counts}
+use Rattle.layout.specs.Layout.{first, isInput, size, reads, exits, decides, decision}
+use Rattle.layout.specs.Shape.{Shape}
+use Rattle.layout.proofs.Firsts.{apart, node-below}
+use Rattle.testvectors.specs.Vectors.{bit}
+use Rattle.testvectors.proofs.Laws.{bit-value}
 use Rattle.value.specs.Settings.{Setting, good, faulty}
-use Rattle.value.specs.Values.{follow, decides, decision, taken, graph, values, value, nodeValue}
+use Rattle.value.specs.Values.{follow, taken, graph, values, value, nodeValue}
 use Rattle.value.proofs.Walk.{Later, walk-bit, node-law, same-graph}
 use Rattle.value.proofs.Settings.{Keeps, stuck-off}
 
@@ -27,9 +27,6 @@ pub record Spares (ws : List ℕ) (c : Counts) (s : Setting) (g : ℕ) : Type 0 
   pub own : (v : ℕ) → s (c .nodes + g) v ≡ v
 
 module _ {ws : List ℕ} {c : Counts} (a : Shape ws c) where
-  pub node-below : (g k : ℕ) → g < c .graphs → k < size ws g → first ws g + k < c .nodes
-  node-below g k l h = rw (a .nodes-in) at (first-above ws g (c .graphs) k l h)
-
   -- a graph with nodes is no input
   pub no-input : (g k : ℕ) → g < c .graphs → k < size ws g → isInput ws g ≡ false
   no-input g k l h = elim (decLt g (c .inputs)) [
@@ -123,7 +120,7 @@ module _ {ws : List ℕ} {c : Counts} (a : Shape ws c) where
   -- one fault leaves every graph alone but the one that it stands in
   pub graph-spares : (f g : ℕ) → f / 2 ≡ c .nodes + g → (h : ℕ) → h < c .graphs → (h ≡ g → ⊥) → Spares ws c (faulty (f ∷ [])) h
   graph-spares f g e h l n = record {
-    node = λ k v i. stuck-off f (first ws h + k) v (λ q. omega (arith, node-below h k l i));
+    node = λ k v i. stuck-off f (first ws h + k) v (λ q. omega (arith, node-below a h k l i));
     own = λ v. stuck-off f (c .nodes + h) v (λ q. n (omega arith));
   }
 
@@ -131,7 +128,7 @@ module _ {ws : List ℕ} {c : Counts} (a : Shape ws c) where
       → (h : ℕ) → h < c .graphs → (h ≡ g → ⊥) → Spares ws c (faulty (f ∷ [])) h
   node-spares f g k l i e h m n = record {
     node = λ j v q. stuck-off f (first ws h + j) v (λ r. apart ws g h k j n i q (sym e ∙ r));
-    own = λ v. stuck-off f (c .nodes + h) v (λ r. omega (arith, node-below g k l i));
+    own = λ v. stuck-off f (c .nodes + h) v (λ r. omega (arith, node-below a g k l i));
   }
 
   -- a setting that leaves the graphs below g alone leaves their values
@@ -145,6 +142,6 @@ module _ {ws : List ℕ} {c : Counts} (a : Shape ws c) where
   pub neutral : (s : Setting) → ((p v : ℕ) → p < c .nodes + c .graphs → s p v ≡ v) → (x : List ℕ) → Same (c .graphs) (value ws c s x) (value ws c good x)
   neutral s alone x =
       fault-below s x (c .graphs) (omega arith) (λ h m. record {
-        node = λ k v l. alone (first ws h + k) v (omega (arith, node-below h k m l));
+        node = λ k v l. alone (first ws h + k) v (omega (arith, node-below a h k m l));
         own = λ v. alone (c .nodes + h) v (omega arith);
       })

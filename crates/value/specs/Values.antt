@@ -3,9 +3,9 @@ use Prim.Native.Nat.{ℕ, zero, suc, _+_}
 use mathlib.Core.List.{List}
 use Rattle.lists.specs.Counting.{choose}
 use Rattle.lists.specs.Tables.{at, Net, grow}
-use Rattle.form.specs.declared.Counts.{Counts}
-use Rattle.form.specs.Layout.{first, isInput, size, reads, exits}
-use Rattle.vectors.specs.Vectors.{bit}
+use Rattle.answers.specs.declared.Counts.{Counts}
+use Rattle.layout.specs.Layout.{first, isInput, size, exits, decision}
+use Rattle.testvectors.specs.Vectors.{bit}
 use Rattle.value.specs.Settings.{Setting}
 
 -- the value of exit e: a constant, or that of a local node
@@ -20,20 +20,13 @@ walk t zero k = 0
 walk t (suc left) k = follow (walk t left) (t k)
 
 module _ (ws : List ℕ) where
-  -- the decision of local node k of graph g where the graph that it reads has the value r
-  unfoldable pub decides : ℕ → ℕ → ℕ → ℕ
-  decides g k r = r
-
-  -- its decision, and the exit that it takes, where the graphs have the values v
-  abbrev pub decision : (ℕ → ℕ) → ℕ → ℕ → ℕ
-  decision v g k = decides g k (v (reads ws g k))
-
+  -- the exit that local node k of graph g takes, where the graphs have the values v
   abbrev pub taken : Setting → (ℕ → ℕ) → ℕ → ℕ → ℕ
-  taken s v g k = exits ws g k (s (first ws g + k) (decision v g k))
+  taken s v g k = exits ws g k (s (first ws g + k) (decision ws v g k))
 
   -- the value of graph g where the graphs have the values v, n being the number of nodes: an input's is its vector bit, an output's that of its entrance
   unfoldable pub graph : ℕ → Setting → List ℕ → Net
-  unfolding walk decides
+  unfolding walk
   graph n s x v g = s (n + g) (choose (isInput ws g) (bit x g) (walk (taken s v g) (size ws g) 0))
 
   -- the values of graphs 0 to g - 1, each from those before it

@@ -19,14 +19,16 @@ slice-aggregate-wanted c =
 
 add-result : tie.Need-add-result
 add-result c =
-    let a = c .before .before .before .before .before .before .before .before .read-full in
-    let b = c .before .before .read-full2 in
+    let at-read-full-2 = c .before .before in
+    let a = at-read-full-2 .before .before .before .before .before .before .read-full in
+    let b = at-read-full-2 .read-full2 in
     omega (arith, a .ensures .0, simp length-take at (a .kept .1 .0), b .ensures .0, simp length-take at (b .kept .1 .0))
 
 returns : tie.Need-returns
 returns c =
-    let a = c .before .before .before .before .before .before .before .before .read-full in
-    let b = c .before .before .read-full2 in
+    let at-read-full-2 = c .before .before in
+    let a = at-read-full-2 .before .before .before .before .before .before .read-full in
+    let b = at-read-full-2 .read-full2 in
     omega (arith, a .ensures .0, simp length-take at (a .kept .1 .0), b .ensures .0, simp length-take at (b .kept .1 .0))
 
 pub read-input-spec : {M : Type 1} → statement M

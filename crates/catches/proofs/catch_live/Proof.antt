@@ -1,31 +1,65 @@
 -- `catches::catch_live` meets its contract. Assumes nothing.
 use native.Mathlib.Omega.{arith}
-use borrow.Author.Needs.{needs}
-use Rattle.catches.proofs.Steps.{value-bit, graph-word}
 use Rattle.catches.proofs.Words.{whole-written}
+use Rattle.catches.proofs.Steps.{graph-word}
+use borrow.Author.Needs.{needs}
 use Rattle.catches.proofs.catch_live.Statement.{statement}
 use Rattle.catches.proofs.catch_live.Tie as tie
 
+is-critical-requires : tie.Need-is-critical-requires
+is-critical-requires c κs =
+    let start = c .before .before .before .before .before in
+    (start .pre .0, start .pre .2, start .pre .1 .long, start .pre .3, start .pre .4)
+
+catch-nodes-requires : tie.Need-catch-nodes-requires
+catch-nodes-requires c κs =
+    let at-is-critical = c .before .before .before .before .before in
+    let start = at-is-critical .before .before .before .before .before .before in
+    (start .pre .0 .ready, start .pre .1, start .pre .2, omega (arith, start .pre .5))
+
 add-get : tie.Need-add-get
-add-get c = let p = c .before .before .before .before .before .before .before .before .before .before .before .before .before .before .before .before .before .pre in omega (arith, p .0 .ready .shape .few-nodes, p .0 .ready .shape .few-graphs, p .2)
+add-get c =
+    let at-catch-nodes = c .before .before .before in
+    let at-is-critical = at-catch-nodes .before .before .before .before .before .before in
+    let start = at-is-critical .before .before .before .before .before .before in
+    omega (arith, start .pre .0 .ready .shape .few-nodes, start .pre .0 .ready .shape .few-graphs, start .pre .2)
 
 get-requires : tie.Need-get-requires
-get-requires c κs = let p = c .before .before .before .before .before .before .before .before .before .before .before .before .before .before .before .before .before .pre in omega (arith, p .0 .swept .long, p .2)
+get-requires c κs =
+    let at-catch-nodes = c .before .before .before in
+    let at-is-critical = at-catch-nodes .before .before .before .before .before .before in
+    let start = at-is-critical .before .before .before .before .before .before in
+    omega (arith, start .pre .1 .long, start .pre .2)
 
 add-put : tie.Need-add-put
-add-put c = let p = c .before .before .before .before .before .before .before .before .before .before .before .before .before .before .before .before .before .before .before .before .pre in omega (arith, p .0 .ready .shape .few-nodes, p .0 .ready .shape .few-graphs, p .2)
+add-put c =
+    let at-catch-nodes = c .before .before .before .before .before .before in
+    let at-is-critical = at-catch-nodes .before .before .before .before .before .before in
+    let start = at-is-critical .before .before .before .before .before .before in
+    omega (arith, start .pre .0 .ready .shape .few-nodes, start .pre .0 .ready .shape .few-graphs, start .pre .2)
 
 caught-whole-requires : tie.Need-caught-whole-requires
-caught-whole-requires c κs = let p = c .before .before .before .before .before .before .before .before .before .before .before .before .before .before .before .before .before .before .before .before .pre in value-bit (p .0) (p .2) (c .before .before .get .ensures)
+caught-whole-requires c κs =
+    let at-get = c .before .before in
+    let at-catch-nodes = at-get .before .before .before .before in
+    let at-is-critical = at-catch-nodes .before .before .before .before .before .before in
+    let start = at-is-critical .before .before .before .before .before .before in
+    rw (at-get .get .ensures) (start .pre .1 .bit _ (start .pre .2))
 
 returns : tie.Need-returns
 returns c =
-    let p = c .before .before .before .before .before .before .before .before .before .before .before .before .before .before .before .before .before .before .before .before .before .before .before .before .pre in
-    let s = c .before .before .before .before .before .before .before .before .before .before .catch-nodes .ensures in
-    let e = c .before .before .before .before .before .before .before .before .before .before .before .before .before .before .is-critical .ensures in
-    (e .1, whole-written (p .0 .ready .shape) (p .2) _ s (λ i b. s .below i b b) (p .4) (c .before .before .put .ensures) (graph-word (p .0) (p .2) (e .0) (c .before .before .before .before .before .before .get .ensures) (c .before .before .before .caught-whole .ensures)))
+    let at-put = c .before .before in
+    let at-caught-whole = at-put .before in
+    let at-get = at-caught-whole .before .before .before in
+    let at-catch-nodes = at-get .before .before .before .before in
+    let at-is-critical = at-catch-nodes .before .before .before .before .before .before in
+    let start = at-is-critical .before .before .before .before .before .before in
+    λ x p f.
+    let e = at-is-critical .is-critical .ensures x p f in
+    let s = at-catch-nodes .catch-nodes .ensures x p (e .0) in
+    (e .1, whole-written (start .pre .0 .ready .shape) (start .pre .2) _ s (λ i b. s .below i b b) (start .pre .5) (at-put .put .ensures) (graph-word (start .pre .0 .ready) p (start .pre .2) (e .0) (at-get .get .ensures) (at-caught-whole .caught-whole .ensures)))
 
 pub catch-live-spec : {M : Type 1} → statement M
 catch-live-spec =
     tie.close
-    (tie.spec (λ c κs. search needs) (λ c κs. search needs) add-get get-requires add-put caught-whole-requires (λ c κs. search needs) (λ c. search needs) (λ c. search needs) returns)
+    (tie.spec is-critical-requires (λ c. search needs) catch-nodes-requires add-get get-requires add-put caught-whole-requires (λ c κs. search needs) (λ c. search needs) (λ c. search needs) returns)

@@ -1,66 +1,76 @@
--- `change::walk_graph` meets its contract. Assumes nothing.
-use Rattle.change.proofs.walk_graph.Tie as tie
+-- `change::walk_graph` meets its contract. The invariant: the walk from node k gives what the walk from the entrance does. Assumes nothing.
 use Prim.Native.Nat.{_<_, _-_}
-use Rattle.change.proofs.Laws.{walk-ends, walk-goes}
-use Rattle.change.proofs.walk_graph.Statement.{statement}
-use Rattle.form.specs.Layout.{size}
-use Rattle.value.proofs.Run.{node-inside, read-below}
-use Rattle.value.specs.Settings.{good}
-use Rattle.value.specs.Values.{walk, taken}
-use borrow.Author.Needs.{needs}
-use lib.ListN.{getD}
 use mathlib.Core.Path.{_≡_, refl, sym, _∙_}
 use native.Mathlib.Omega.{arith}
+use lib.ListN.{getD}
+use Rattle.layout.specs.Layout.{size}
+use Rattle.layout.proofs.Places.{node-inside, read-below}
+use Rattle.value.specs.Settings.{good}
+use Rattle.value.specs.Values.{walk, taken}
+use Rattle.change.proofs.Laws.{walk-ends, walk-goes}
+use borrow.Author.Needs.{needs}
+use Rattle.change.proofs.walk_graph.Statement.{statement}
+use Rattle.change.proofs.walk_graph.Tie as tie
 
 abbrev Inv-loop : tie.InvT-loop
-Inv-loop card firsts vector h flips first k₀ k = (k < size card h) × (walk (taken card good (λ g. getD flips g 0) h) (size card h) 0 ≡ walk (taken card good (λ g. getD flips g 0) h) (size card h) k)
+Inv-loop card firsts h flips first k₀ k = (k < size card h) × (walk (taken card good (λ g. getD flips g 0) h) (size card h) 0 ≡ walk (taken card good (λ g. getD flips g 0) h) (size card h) k)
 
 abbrev μ-loop : tie.MeasureT-loop
-μ-loop card firsts vector h flips first k₀ k = size card h - k
-
-first-node-requires : tie.Need-first-node-requires Inv-loop μ-loop
-first-node-requires c κs =
-    let p = c .before .before .before .before .pre in omega (arith, p .0 .long, p .1)
+μ-loop card firsts h flips first k₀ k = size card h - k
 
 loop-holds : tie.Need-loop-holds Inv-loop μ-loop
-loop-holds c = (c .before .before .before .before .before .pre .2, refl)
+loop-holds c = (c .before .before .before .before .pre .1, refl)
 
 add-j : tie.Need-add-j Inv-loop μ-loop
 add-j c =
-    let p = c .before .before .before .before .before .before .pre in omega (arith, node-inside (p .0) (p .1) (c .loop .inv .0) (c .before .first-node .ensures), p .0 .shape .few-nodes)
+    let at-first-node = c .before in
+    let start = at-first-node .before .before .before .before in
+    omega (arith, node-inside (start .pre .0) (c .loop .inv .0) (at-first-node .first-node .ensures))
 
-graph-read-requires : tie.Need-graph-read-requires Inv-loop μ-loop
-graph-read-requires c κs =
-    let p = c .before .before .before .before .before .before .pre in omega (arith, node-inside (p .0) (p .1) (c .loop .inv .0) (c .before .first-node .ensures))
-
-get-requires : tie.Need-get-requires Inv-loop μ-loop
-get-requires c κs =
-    let p = c .before .before .before .before .before .before .before .pre in omega (arith, read-below (p .0) (p .1) (c .before .loop .inv .0) (c .before .before .first-node .ensures) (c .graph-read .ensures), p .3)
+decision-requires : tie.Need-decision-requires Inv-loop μ-loop
+decision-requires c κs =
+    let at-first-node = c .before in
+    let start = at-first-node .before .before .before .before in
+    let f = at-first-node .first-node .ensures in
+    (omega (arith, node-inside (start .pre .0) (c .loop .inv .0) f), omega (arith, read-below (start .pre .0) (c .loop .inv .0) f, start .pre .2))
 
 exit-at-requires : tie.Need-exit-at-requires Inv-loop μ-loop
 exit-at-requires c κs =
-    let p = c .before .before .before .before .before .before .before .before .pre in node-inside (p .0) (p .1) (c .before .before .loop .inv .0) (c .before .before .before .first-node .ensures) .1
+    let at-loop = c .before in
+    let at-first-node = at-loop .before in
+    let start = at-first-node .before .before .before .before in
+    node-inside (start .pre .0) (at-loop .loop .inv .0) (at-first-node .first-node .ensures)
 
 returns : tie.Need-returns Inv-loop μ-loop
 returns c =
-    let p = c .before .before .before .before .before .before .before .before .before .before .pre in
-    let l = c .before .before .before .before .loop in
-    walk-ends (p .0) (p .1) (l .inv .0) (c .before .before .before .before .before .first-node .ensures) (c .before .before .before .before .before .before .before .before .before .before .args .flips .now) (c .before .before .before .graph-read .ensures) (c .before .before .get .ensures) (c .before .exit-at .ensures) (c .if1 .taken) ∙ sym (l .inv .1)
+    let at-exit-at = c .before in
+    let at-decision = at-exit-at .before in
+    let at-loop = at-decision .before in
+    let at-first-node = at-loop .before in
+    let start = at-first-node .before .before .before .before in
+    walk-ends (start .pre .0) (at-loop .loop .inv .0) (at-first-node .first-node .ensures) (start .args .flips .now) (at-decision .decision .ensures) (at-exit-at .exit-at .ensures) (c .if1 .taken) ∙ sym (at-loop .loop .inv .1)
 
 loop-less : tie.Need-loop-less Inv-loop μ-loop
 loop-less c =
-    let p = c .before .before .before .before .before .before .before .before .before .before .pre in
-    let n = walk-goes (p .0) (p .1) (c .before .before .before .before .loop .inv .0) (c .before .before .before .before .before .first-node .ensures) (c .before .before .before .before .before .before .before .before .before .before .args .flips .now) (c .before .before .before .graph-read .ensures) (c .before .before .get .ensures) (c .before .exit-at .ensures) (c .if1 .left) in
+    let at-exit-at = c .before in
+    let at-decision = at-exit-at .before in
+    let at-loop = at-decision .before in
+    let at-first-node = at-loop .before in
+    let start = at-first-node .before .before .before .before in
+    let n = walk-goes (start .pre .0) (at-loop .loop .inv .0) (at-first-node .first-node .ensures) (start .args .flips .now) (at-decision .decision .ensures) (at-exit-at .exit-at .ensures) (c .if1 .left) in
     omega (arith, n .0, n .1)
 
 loop-again : tie.Need-loop-again Inv-loop μ-loop
 loop-again c =
-    let p = c .before .before .before .before .before .before .before .before .before .before .pre in
-    let l = c .before .before .before .before .loop in
-    let n = walk-goes (p .0) (p .1) (l .inv .0) (c .before .before .before .before .before .first-node .ensures) (c .before .before .before .before .before .before .before .before .before .before .args .flips .now) (c .before .before .before .graph-read .ensures) (c .before .before .get .ensures) (c .before .exit-at .ensures) (c .if1 .left) in
-    (n .1, l .inv .1 ∙ n .2)
+    let at-exit-at = c .before in
+    let at-decision = at-exit-at .before in
+    let at-loop = at-decision .before in
+    let at-first-node = at-loop .before in
+    let start = at-first-node .before .before .before .before in
+    let n = walk-goes (start .pre .0) (at-loop .loop .inv .0) (at-first-node .first-node .ensures) (start .args .flips .now) (at-decision .decision .ensures) (at-exit-at .exit-at .ensures) (c .if1 .left) in
+    (n .1, at-loop .loop .inv .1 ∙ n .2)
 
 pub walk-graph-spec : {M : Type 1} → statement M
 walk-graph-spec =
     tie.close
-    (tie.spec Inv-loop μ-loop first-node-requires loop-holds add-j graph-read-requires get-requires exit-at-requires (λ c. search needs) returns loop-less loop-again)
+    (tie.spec Inv-loop μ-loop (λ c κs. search needs) loop-holds add-j decision-requires exit-at-requires (λ c. search needs) returns loop-less loop-again)

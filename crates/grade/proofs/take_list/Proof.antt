@@ -1,92 +1,125 @@
 -- `grade::take_list` meets its contract. Assumes nothing.
-use Rattle.grade.proofs.take_list.Tie as tie
-use Prim.Native.Nat.{_≤_, _-_}
-use Rattle.grade.proofs.Graded.{graded-next, graded-last, marked-last}
-use Rattle.reach.proofs.Laws.{ready-for}
-use Rattle.running.proofs.Taken.{room-kept}
+-- The invariant: the vectors below t are taken in, so the buffer is that of the first t vectors, and the result stands.
+use Prim.Native.Nat.{_-_, _≤_}
+use Rattle.block.specs.Block.{Standing}
+use Rattle.grade.proofs.Graded.{list-ends, list-part, block-of, block-number, graded-block, graded-last, marked-last}
 use Rattle.grade.proofs.take_list.Statement.{statement}
-use Rattle.running.specs.Running.{Standing}
+use Rattle.grade.proofs.take_list.Tie as tie
 use Rattle.grade.specs.Graded.{Graded}
-use Rattle.vectors.proofs.Laws.{vector-inside, vector-width}
-use Rattle.vectors.specs.Vectors.{vectors}
+use Rattle.testvectors.specs.Vectors.{vectors}
 use borrow.Author.Needs.{needs}
 use lib.ListN.{length}
 use mathlib.Core.Path.{_≡_, refl, _∙_}
 use native.Mathlib.Omega.{arith}
 
 abbrev Inv-loop : tie.InvT-loop
-Inv-loop drops card c firsts lows highs list live₀ places₀ flips₀ caught₀ words₀ inputs n r₀ t₀ live places flips caught words r t =
-    (t ≤ n) × (length live ≡ length live₀) × (length places ≡ length places₀) × (length flips ≡ length flips₀) × (length caught ≡ length caught₀) × (length words ≡ length words₀) × (r .vector ≡ t) × Standing drops card c live words r × Graded drops card c list t words₀ words
+Inv-loop drops card c tables list live₀ marks₀ w n r₀ t₀ live marks r t =
+    (t ≤ n) × (length live ≡ length live₀) × (length marks ≡ length marks₀) × (r .vector ≡ t) × Standing drops card c live marks r × Graded drops card c list t marks₀ marks
 
 abbrev μ-loop : tie.MeasureT-loop
-μ-loop drops card c firsts lows highs list live₀ places₀ flips₀ caught₀ words₀ inputs n r₀ t₀ live places flips caught words r t =
-    n - t
+μ-loop drops card c tables list live₀ marks₀ w n r₀ t₀ live marks r t = n - t
+
+width-requires : tie.Need-width-requires Inv-loop μ-loop
+width-requires c κs =
+    let shape = c .before .before .before .before .pre .0 .shape in
+    omega (arith, shape .inputs-in, shape .few-graphs)
 
 count-vectors-requires : tie.Need-count-vectors-requires Inv-loop μ-loop
 count-vectors-requires c κs =
-    let s = c .before .before .before .before .before .before .before .before .before .before .pre in
-    omega (arith, s .0 .some-input, s .0 .shape .inputs-in, s .0 .shape .few-graphs)
+    let listed = c .before .before .before .before .before .pre .0 in
+    omega (arith, listed .some-input, listed .shape .inputs-in, listed .shape .few-graphs)
 
 loop-holds : tie.Need-loop-holds Inv-loop μ-loop
 loop-holds c =
-    let s = c .before .before .before .before .before .before .before .before .before .before .before .pre in
-    (omega arith, refl, refl, refl, refl, refl, s .4, s .5, s .6)
+    let start = c .before .before .before .before .before .before in
+    (omega arith, refl, refl, start .pre .3, start .pre .4, start .pre .5)
 
-vector-at-requires : tie.Need-vector-at-requires Inv-loop μ-loop
-vector-at-requires c κs =
-    let s = c .before .before .before .before .before .before .before .before .before .before .before .before .before .pre .0 in
-    (omega (arith, s .shape .inputs-in, s .shape .few-graphs), vector-inside _ _ _ (s .whole) (omega (arith, c .loop-test .taken, c .before .before .count-vectors .ensures)))
+block-end-requires : tie.Need-block-end-requires Inv-loop μ-loop
+block-end-requires c κs = omega (arith, c .loop-test .taken)
 
-take-in-requires : tie.Need-take-in-requires Inv-loop μ-loop
-take-in-requires c κs =
-    let s = c .before .before .before .before .before .before .before .before .before .before .before .before .before .before .before .before .before .before .before .pre in
-    let l = c .before .before .before .before .before .before .before .loop in
-    let n = c .before .before .before .before .before .before .before .before .count-vectors .ensures in
-    let i = vector-inside (c .before .before .before .before .before .before .before .before .before .before .before .before .before .before .before .before .before .before .before .args .c .inputs) (c .before .before .before .before .before .before .before .before .before .before .before .before .before .before .before .before .before .before .before .args .list .now) (l .t) (s .0 .whole) (omega (arith, c .before .before .before .before .before .before .loop-test .taken, n)) in
-    (ready-for (s .1) (rw (c .before .before .before .before .before .vector-at .ensures) (omega (arith, vector-width (c .before .before .before .before .before .before .before .before .before .before .before .before .before .before .before .before .before .before .before .args .c .inputs) (c .before .before .before .before .before .before .before .before .before .before .before .before .before .before .before .before .before .before .before .args .list .now) (l .t) i))), s .2, room-kept (s .3) (l .inv .1) (l .inv .2) (l .inv .3) (l .inv .4), omega (arith, l .inv .6, c .before .before .before .before .before .before .loop-test .taken, n, s .0 .few), l .inv .7)
+mul-take-block : tie.Need-mul-take-block Inv-loop μ-loop
+mul-take-block c =
+    let at-count = c .before .before .before in
+    omega (arith, list-ends (at-count .before .before .before .before .before .before .pre .0) (at-count .before .width .ensures) (c .block-end .ensures) (omega (arith, at-count .count-vectors .ensures)))
 
-add-t : tie.Need-add-t Inv-loop μ-loop
-add-t c =
-    omega (arith, c .before .before .before .before .before .before .before .before .before .before .before .before .before .before .before .before .before .loop-test .taken, c .before .before .before .before .before .before .before .before .before .before .before .before .before .before .before .before .before .before .before .count-vectors .ensures, c .before .before .before .before .before .before .before .before .before .before .before .before .before .before .before .before .before .before .before .before .before .before .before .before .before .before .before .before .before .before .pre .0 .few)
+mul-take-block-2 : tie.Need-mul-take-block-2 Inv-loop μ-loop
+mul-take-block-2 c =
+    let at-count = c .before .before .before in
+    omega (arith, list-ends (at-count .before .before .before .before .before .before .pre .0) (at-count .before .width .ensures) (c .block-end .ensures) (omega (arith, at-count .count-vectors .ensures)))
+
+mul-take-block-3 : tie.Need-mul-take-block-3 Inv-loop μ-loop
+mul-take-block-3 c =
+    let at-count = c .before .before .before in
+    omega (arith, list-ends (at-count .before .before .before .before .before .before .pre .0) (at-count .before .width .ensures) (c .block-end .ensures) (omega (arith, at-count .count-vectors .ensures)))
+
+sub-take-block : tie.Need-sub-take-block Inv-loop μ-loop
+sub-take-block c =
+    let at-count = c .before .before .before in
+    omega (arith, list-ends (at-count .before .before .before .before .before .before .pre .0) (at-count .before .width .ensures) (c .block-end .ensures) (omega (arith, at-count .count-vectors .ensures)))
+
+part-take-block-start : tie.Need-part-take-block-start Inv-loop μ-loop
+part-take-block-start c =
+    let at-count = c .before .before .before in
+    omega (arith, list-ends (at-count .before .before .before .before .before .before .pre .0) (at-count .before .width .ensures) (c .block-end .ensures) (omega (arith, at-count .count-vectors .ensures)))
+
+part-take-block-end : tie.Need-part-take-block-end Inv-loop μ-loop
+part-take-block-end c =
+    let at-count = c .before .before .before in
+    omega (arith, list-ends (at-count .before .before .before .before .before .before .pre .0) (at-count .before .width .ensures) (c .block-end .ensures) (omega (arith, at-count .count-vectors .ensures)))
+
+take-block-requires : tie.Need-take-block-requires Inv-loop μ-loop
+take-block-requires c κs =
+    let at-end = c .before .before .before in
+    let at-loop = at-end .before .before in
+    let at-count = at-loop .before in
+    let start = at-count .before .before .before .before .before .before in
+    let inv = at-loop .loop .inv in
+    let listed = start .pre .0 in
+    let wide = at-count .before .width .ensures in
+    let end = at-end .block-end .ensures in
+    let part = list-part listed wide end (omega (arith, at-count .count-vectors .ensures)) refl in
+    (start .pre .1, block-of listed wide end (omega (arith, at-count .count-vectors .ensures)) part (inv .3), omega (arith, start .pre .2, inv .1), inv .4)
 
 loop-less : tie.Need-loop-less Inv-loop μ-loop
 loop-less c =
-    omega (arith, c .before .before .before .before .before .before .before .before .before .before .before .before .before .before .before .before .before .loop-test .taken)
+    let before-block-end = c .before .before .before .before .before .before .before in
+    let end = before-block-end .before .block-end .ensures in
+    omega (arith, end .some, end .inside)
 
 loop-again : tie.Need-loop-again Inv-loop μ-loop
 loop-again c =
-    let l = c .before .before .before .before .before .before .before .before .before .before .before .before .before .before .before .before .before .before .loop .inv in
-    let k = c .before .before .before .before .before .before .before .before .before .before .take-in .kept .1 .1 .1 .1 .1 .1 .1 .1 in
-    let e = c .before .before .before .before .before .before .before .before .before .before .take-in .ensures in
-    (omega (arith, c .before .before .before .before .before .before .before .before .before .before .before .before .before .before .before .before .before .loop-test .taken), omega (arith, l .1, k .0), omega (arith, l .2, k .1 .0), omega (arith, l .3, k .1 .1 .0), omega (arith, l .4, k .1 .1 .1 .0), omega (arith, l .5, k .1 .1 .1 .1 .0), omega (arith, l .6, e .0), e .2, graded-next _ _ _ _ (l .8) (rw (c .before .before .before .before .before .before .before .before .before .before .before .before .before .before .before .before .vector-at .ensures, l .6) at (e .1)))
+    let at-take = c .before .before .before .before in
+    let at-end = at-take .before .before .before .before in
+    let at-loop = at-end .before .before in
+    let at-count = at-loop .before in
+    let start = at-count .before .before .before .before .before .before in
+    let inv = at-loop .loop .inv in
+    let took = at-take .take-block in
+    let end = at-end .block-end .ensures in
+    let part = list-part (start .pre .0) (at-count .before .width .ensures) end (omega (arith, at-count .count-vectors .ensures)) refl in (
+      end .inside,
+      omega (arith, inv .1, took .kept .1 .1 .1 .1 .1 .1 .0),
+      omega (arith, inv .2, took .kept .1 .1 .1 .1 .1 .1 .1 .0),
+      block-number _ _ _ _ part end (inv .3) (took .ensures),
+      took .ensures .standing,
+      graded-block _ _ _ _ part end (inv .3) (took .ensures) (inv .5),
+    )
 
 same-length : tie.Need-same-length Inv-loop μ-loop
-same-length c =
-    search needs
+same-length c = search needs
 
 same-length-2 : tie.Need-same-length-2 Inv-loop μ-loop
-same-length-2 c =
-    search needs
-
-same-length-3 : tie.Need-same-length-3 Inv-loop μ-loop
-same-length-3 c =
-    search needs
-
-same-length-4 : tie.Need-same-length-4 Inv-loop μ-loop
-same-length-4 c =
-    search needs
-
-same-length-5 : tie.Need-same-length-5 Inv-loop μ-loop
-same-length-5 c =
-    search needs
+same-length-2 c = search needs
 
 returns : tie.Need-returns Inv-loop μ-loop
 returns c =
-    let s = c .before .before .before .before .before .before .before .before .before .before .before .before .before .pre in
-    let l = c .before .loop .inv in
-    let e : c .before .loop .t ≡ vectors (c .before .before .before .before .before .before .before .before .before .before .before .before .before .args .c .inputs) (c .before .before .before .before .before .before .before .before .before .before .before .before .before .args .list .now) = omega (arith, l .0, c .loop-test .left, c .before .before .count-vectors .ensures) in
-    let g = rw e at (l .8) in
-    (l .7 .counted ∙ marked-last _ _ _ _ g, graded-last _ _ _ _ (s .5 .long) (l .5) g)
+    let at-loop = c .before in
+    let at-count = at-loop .before in
+    let start = at-count .before .before .before .before .before .before in
+    let inv = at-loop .loop .inv in
+    let all : at-loop .loop .t ≡ vectors (start .args .c .inputs) (start .args .list .now) = omega (arith, inv .0, c .loop-test .left, at-count .count-vectors .ensures) in
+    let whole = rw all at (inv .5) in
+    (inv .4 .counted .number ∙ marked-last _ _ _ _ whole, graded-last _ _ _ _ (start .pre .4 .counted .long) (inv .2) whole)
 
 pub take-list-spec : {M : Type 1} → statement M
 take-list-spec =
@@ -94,16 +127,19 @@ take-list-spec =
     (tie.spec
     Inv-loop
     μ-loop
+    width-requires
     count-vectors-requires
     loop-holds
-    vector-at-requires
-    take-in-requires
-    add-t
+    block-end-requires
+    mul-take-block
+    mul-take-block-2
+    mul-take-block-3
+    sub-take-block
+    part-take-block-start
+    part-take-block-end
+    take-block-requires
     loop-less
     loop-again
     same-length
     same-length-2
-    same-length-3
-    same-length-4
-    same-length-5
     returns)

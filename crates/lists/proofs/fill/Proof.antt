@@ -1,4 +1,4 @@
--- `lists::fill` meets its contract: after i turns the first i words are v. Assumes nothing.
+-- `lists::fill` meets its contract. The invariant: the first i words are v, and the others as they were. Assumes nothing.
 use mathlib.Core.Path.{_≡_, refl, sym}
 use Prim.Native.Nat.{_≤_, _-_}
 use borrow.Author.Needs.{needs}

@@ -4,9 +4,11 @@ use Prim.Native.Nat.{ℕ, _<_, _+_, _*_, _-_}
 use mathlib.Core.Path.{sym, _∙_}
 use native.Mathlib.Omega.{arith}
 use borrow.Author.Needs.{needs}
-use Rattle.form.specs.Layout.{size}
-use Rattle.value.proofs.Run.{few-nodes, place-is, node-inside, read-below, node-ends, node-goes, some-node}
-use Rattle.plain.proofs.Laws.{node-known, node-saved, graph-known, graph-saved, input-value, output-value}
+use Rattle.layout.specs.Layout.{size}
+use Rattle.layout.proofs.Places.{walkable, few-nodes, some-node, node-inside, read-below, place-below}
+use Rattle.value.specs.Settings.{faulty}
+use Rattle.value.proofs.Run.{node-ends, node-goes}
+use Rattle.plain.proofs.Laws.{node-known, node-saved, decision-found, graph-known, graph-saved, input-value, output-value}
 use borrow.Fn.Kinds.{In}
 use borrow.Fn.PlainCycle.{Measures, is, falls, and}
 use Rattle.plain.proofs.graph_value.Reads as graph-value
@@ -15,13 +17,14 @@ use Rattle.plain.proofs.+graph_value+node_value.Lts-graph_value as grap
 use Rattle.plain.proofs.node_value.Reads as node-value
 use Rattle.plain.proofs.node_value.Kinds as node-value-kinds
 use Rattle.plain.proofs.+graph_value+node_value.Lts-node_value as node-value-lts
+use Rattle.layout.proofs.decision.Reads as decision-reads
+use Rattle.layout.proofs.first_node.Reads as first-node-reads
+use Rattle.layout.proofs.graph_read.Reads as graph-read-reads
 use Rattle.lists.proofs.get.Reads as get-reads
 use Rattle.lists.proofs.put.Reads as put-reads
 use Rattle.value.proofs.exit_taken.Reads as exit-taken-reads
-use Rattle.value.proofs.first_node.Reads as first-node-reads
-use Rattle.value.proofs.graph_read.Reads as graph-read-reads
 use Rattle.value.proofs.set_at.Reads as set-at-reads
-use Rattle.vectors.proofs.bit.Reads as bit-reads
+use Rattle.testvectors.proofs.bit.Reads as bit-reads
 use Rattle.plain.proofs.+graph_value+node_value.{statement}
 use Rattle.plain.proofs.+graph_value+node_value.Tie.{close}
 
@@ -63,38 +66,78 @@ pub +graph-value+node-value-spec : {M : Type 1} → statement M
     (graph-value-at t)
     graph-value.Post
     -- graph-value-add-place
-    (λ c. let s = c .before .before .before .before .before .before in omega (arith, s .pre .1 .0 .shape .few-nodes, s .pre .1 .0 .shape .few-graphs, s .pre .1 .1))
+    (λ c.
+    let start = c .before .before .before .before .before .before in
+    let p = start .pre .1 in
+    omega (arith, p .0 .shape .few-nodes, p .0 .shape .few-graphs, p .2))
     -- graph-value-get-requires
-    (λ c κs. let s = c .before .before .before .before .before .before .before in omega (arith, s .pre .1 .2 .long, s .pre .1 .1))
+    (λ c κs.
+    let start = c .before .before .before .before .before .before .before in
+    let p = start .pre .1 in
+    omega (arith, p .3 .long, p .2))
     -- graph-value-same-length
     (λ c. search needs)
     -- graph-value-returns
-    (λ c. let p = c .before .before .before .before .before .before .before .before .before .pre .1 in graph-known (p .0) (p .1) (p .2) (c .before .get .ensures) (c .if1 .taken))
+    (λ c.
+    let at-get = c .before in
+    let at-struct-known = at-get .before .before in
+    let start = at-struct-known .before .before .before .before .before .before in
+    let p = start .pre .1 in
+    graph-known _ (p .0) (p .2) (p .3) (at-get .get .ensures) (c .if1 .taken))
     -- graph-value-bit-requires
-    (λ c κs. c .before .before .before .before .before .before .before .before .before .before .before .pre .1 .0 .wide _ (c .if2 .taken))
+    (λ c κs.
+    let at-struct-known = c .before .before .before .before .before in
+    let start = at-struct-known .before .before .before .before .before .before in
+    start .pre .1 .1 .bits _ (c .if2 .taken))
     -- graph-value-set-at-requires
     (λ c κs. search needs)
     -- graph-value-put-requires
-    (λ c κs. let s = c .before .before .before .before .before .before .before .before .before .before .before .before .before .before in omega (arith, s .pre .1 .2 .long, s .pre .1 .1))
+    (λ c κs.
+    let at-get = c .before .before .before .before .before .before in
+    let at-struct-known = at-get .before .before in
+    let start = at-struct-known .before .before .before .before .before .before in
+    let p = start .pre .1 in
+    omega (arith, p .3 .long, p .2))
     -- graph-value-same-length-2
     (λ c. search needs)
     -- graph-value-returns-2
-    (λ c. let p = c .before .before .before .before .before .before .before .before .before .before .before .before .before .before .before .before .before .pre .1 in
-    graph-saved (p .0) (p .1) (p .2) (input-value (p .0) (p .1) (c .before .before .before .before .before .before .if2 .taken) (c .before .before .before .before .before .bit .ensures) (c .before .before .before .before .set-at .ensures)) (c .before .before .put .ensures))
+    (λ c.
+    let at-put = c .before .before in
+    let at-set-at = at-put .before .before in
+    let at-bit = at-set-at .before in
+    let at-if2 = at-bit .before in
+    let at-struct-known = at-if2 .before .before .before .before .before in
+    let start = at-struct-known .before .before .before .before .before .before in
+    let p = start .pre .1 in
+    graph-saved _ (p .0) (p .2) (p .3) (input-value _ (p .0) (p .2) (at-if2 .if2 .taken) (at-bit .bit .ensures) (at-set-at .set-at .ensures)) (at-put .put .ensures))
     -- graph-value-node-value-requires
-    (λ c κs. let s = c .before .before .before .before .before .before .before .before .before .before .before .before in
-    let p = s .pre .1 in
-    (omega (arith, s .pre .0, few-nodes (p .0) _ (p .1)), (p .0, p .1, some-node (p .0) (p .1) (c .before .if2 .left), p .2)))
+    (λ c κs.
+    let at-if2 = c .before in
+    let at-struct-known = at-if2 .before .before .before .before .before in
+    let start = at-struct-known .before .before .before .before .before .before in
+    let p = start .pre .1 in
+    (omega (arith, start .pre .0, few-nodes (p .0) _ (p .2)), (p .0, p .1, p .2, some-node (p .0) (p .2) (at-if2 .if2 .left), p .3)))
     -- graph-value-set-at-requires-2
     (λ c κs. search needs)
     -- graph-value-put-requires-2
-    (λ c κs. omega (arith, c .before .before .before .before .node-value .ensures .saved .long, c .before .before .before .before .before .before .before .before .before .before .before .before .before .before .before .before .before .pre .1 .1))
+    (λ c κs.
+    let at-node-value = c .before .before .before .before in
+    let at-struct-known = at-node-value .before .before .before .before .before .before .before in
+    let start = at-struct-known .before .before .before .before .before .before in
+    omega (arith, at-node-value .node-value .ensures .saved .long, start .pre .1 .2))
     -- graph-value-same-length-3
     (λ c. search needs)
     -- graph-value-returns-3
-    (λ c. let p = c .before .before .before .before .before .before .before .before .before .before .before .before .before .before .before .before .before .before .before .before .pre .1 in
-    let f = c .before .before .before .before .before .before .before .node-value .ensures in
-    graph-saved (p .0) (p .1) (f .saved) (output-value (p .0) (p .1) (c .before .before .before .before .before .before .before .before .before .if2 .left) (f .right) (c .before .before .before .before .set-at2 .ensures)) (c .before .before .put2 .ensures)))
+    (λ c.
+    let at-put2 = c .before .before in
+    let at-set-at2 = at-put2 .before .before in
+    let at-node-value = at-set-at2 .before .before .before in
+    let at-if2 = at-node-value .before .before in
+    let at-struct-known = at-if2 .before .before .before .before .before in
+    let start = at-struct-known .before .before .before .before .before .before in
+    let p = start .pre .1 in
+    let f = at-node-value .node-value .ensures in
+    graph-saved _ (p .0) (p .2) (f .saved) (output-value _ (p .0) (p .2) (at-if2 .if2 .left) (f .right) (at-set-at2 .set-at2 .ensures)) (at-put2 .put2 .ensures)))
     λ t. node-value-lts.spec (
       first-node-reads.Asked,
       first-node-reads.Learnt,
@@ -104,6 +147,8 @@ pub +graph-value+node-value-spec : {M : Type 1} → statement M
       graph-read-reads.Learnt,
       graph-value-below t,
       graph-value.Post,
+      decision-reads.Asked,
+      decision-reads.Learnt,
       exit-taken-reads.Asked,
       exit-taken-reads.Learnt,
       put-reads.Asked,
@@ -114,53 +159,128 @@ pub +graph-value+node-value-spec : {M : Type 1} → statement M
     (node-value-at t)
     node-value.Post
     -- node-value-first-node-requires
-    (λ c κs. let p = c .before .before .before .before .before .pre .1 in omega (arith, p .0 .long, p .1))
+    (λ c κs.
+    let start = c .before .before .before .before .before in
+    let p = start .pre .1 in
+    omega (arith, p .0 .long, p .2))
     -- node-value-add-j
-    (λ c. let p = c .before .before .before .before .before .before .pre .1 in omega (arith, node-inside (p .0) (p .1) (p .2) (c .first-node .ensures), p .0 .shape .few-nodes))
+    (λ c.
+    let start = c .before .before .before .before .before .before in
+    let p = start .pre .1 in
+    omega (arith, node-inside (walkable (p .0) (p .2)) (p .3) (c .first-node .ensures)))
     -- node-value-get-requires
-    (λ c κs. let p = c .before .before .before .before .before .before .before .pre .1 in omega (arith, node-inside (p .0) (p .1) (p .2) (c .before .first-node .ensures), p .3 .long))
+    (λ c κs.
+    let at-first-node = c .before in
+    let start = at-first-node .before .before .before .before .before .before in
+    let p = start .pre .1 in
+    omega (arith, place-below (p .0) (p .2) (p .3) (at-first-node .first-node .ensures), p .4 .long))
     -- node-value-same-length
     (λ c. search needs)
     -- node-value-returns
-    (λ c. let p = c .before .before .before .before .before .before .before .before .before .pre .1 in node-known (p .0) (p .1) (p .2) (c .before .before .before .first-node .ensures) (p .3) (c .before .get .ensures) (c .if1 .taken))
+    (λ c.
+    let at-get = c .before in
+    let at-first-node = at-get .before .before in
+    let start = at-first-node .before .before .before .before .before .before in
+    let p = start .pre .1 in
+    node-known _ (p .0) (p .2) (p .3) (at-first-node .first-node .ensures) (p .4) (at-get .get .ensures) (c .if1 .taken))
     -- node-value-graph-read-requires
-    (λ c κs. let p = c .before .before .before .before .before .before .before .before .before .pre .1 in omega (arith, node-inside (p .0) (p .1) (p .2) (c .before .before .before .first-node .ensures)))
+    (λ c κs.
+    let at-first-node = c .before .before .before in
+    let start = at-first-node .before .before .before .before .before .before in
+    let p = start .pre .1 in
+    omega (arith, node-inside (walkable (p .0) (p .2)) (p .3) (at-first-node .first-node .ensures)))
     -- node-value-graph-value-requires
-    (λ c κs. let s = c .before .before .before .before .before .before .before .before .before .before .before in
-    let p = s .pre .1 in
-    let low = read-below (p .0) (p .1) (p .2) (c .before .before .before .before .before .first-node .ensures) (c .before .graph-read .ensures) in
-    (omega (arith, s .pre .0, low, p .2), (p .0, omega (arith, low, p .1), p .3)))
+    (λ c κs.
+    let at-graph-read = c .before in
+    let at-first-node = at-graph-read .before .before .before .before in
+    let start = at-first-node .before .before .before .before .before .before in
+    let p = start .pre .1 in
+    let low = read-below (walkable (p .0) (p .2)) (p .3) (at-first-node .first-node .ensures) in
+    (omega (arith, start .pre .0, low, at-graph-read .graph-read .ensures, p .3), (p .0, p .1, omega (arith, low, at-graph-read .graph-read .ensures, p .2), p .4)))
+    -- node-value-decision-requires
+    (λ c κs.
+    let at-graph-value = c .before .before .before in
+    let at-first-node = at-graph-value .before .before .before .before .before .before in
+    let start = at-first-node .before .before .before .before .before .before in
+    let p = start .pre .1 in
+    let f = at-first-node .first-node .ensures in
+    let y = walkable (p .0) (p .2) in
+    (omega (arith, node-inside y (p .3) f), omega (arith, read-below y (p .3) f, p .2, at-graph-value .graph-value .ensures .saved .long)))
     -- node-value-exit-taken-requires
-    (λ c κs. let p = c .before .before .before .before .before .before .before .before .before .before .before .before .before .before .pre .1 in
-    let f = c .before .before .before .before .before .before .before .before .first-node .ensures in
-    (node-inside (p .0) (p .1) (p .2) f .1, place-is (p .0) (p .1) (p .2) f))
+    (λ c κs.
+    let at-if1 = c .before .before .before .before .before .before .before in
+    let at-first-node = at-if1 .before .before .before in
+    let start = at-first-node .before .before .before .before .before .before in
+    let p = start .pre .1 in
+    node-inside (walkable (p .0) (p .2)) (p .3) (at-first-node .first-node .ensures))
     -- node-value-cast-put
     (λ c. search needs)
     -- node-value-put-requires
-    (λ c κs. let p = c .before .before .before .before .before .before .before .before .before .before .before .before .before .before .before .before .before .pre .1 in omega (arith, node-inside (p .0) (p .1) (p .2) (c .before .before .before .before .before .before .before .before .before .before .before .first-node .ensures), c .before .before .before .before .before .graph-value .ensures .saved .long))
+    (λ c κs.
+    let at-graph-value = c .before .before .before .before .before .before .before in
+    let at-first-node = at-graph-value .before .before .before .before .before .before in
+    let start = at-first-node .before .before .before .before .before .before in
+    let p = start .pre .1 in
+    omega (arith, place-below (p .0) (p .2) (p .3) (at-first-node .first-node .ensures), at-graph-value .graph-value .ensures .saved .long))
     -- node-value-cast-result
     (λ c. search needs)
     -- node-value-same-length-2
     (λ c. search needs)
     -- node-value-returns-2
-    (λ c. let p = c .before .before .before .before .before .before .before .before .before .before .before .before .before .before .before .before .before .before .before .before .pre .1 in
-    let f = c .before .before .before .before .before .before .before .before .before .before .before .before .before .before .first-node .ensures in
-    let v = c .before .before .before .before .before .before .before .before .graph-value .ensures in
-    node-saved (p .0) (p .1) (p .2) f (v .saved) (node-ends (p .0) (p .1) (p .2) f (c .before .before .before .before .before .before .before .before .before .before .graph-read .ensures) (v .right) (c .before .before .before .before .before .exit-taken .ensures) (c .before .before .before .before .if2 .taken)) (c .before .before .put .ensures))
+    (λ c.
+    let at-put = c .before .before in
+    let at-if2 = at-put .before .before in
+    let at-exit-taken = at-if2 .before in
+    let at-decision = at-exit-taken .before in
+    let at-graph-value = at-decision .before .before .before .before in
+    let at-graph-read = at-graph-value .before .before in
+    let at-first-node = at-graph-read .before .before .before .before in
+    let start = at-first-node .before .before .before .before .before .before in
+    let p = start .pre .1 in
+    let f = at-first-node .first-node .ensures in
+    let v = at-graph-value .graph-value .ensures in
+    let d = decision-found _ (p .0) (p .2) (p .3) f (at-graph-read .graph-read .ensures) v (at-decision .decision .ensures) in
+    node-saved _ (p .0) (p .2) (p .3) f (v .saved) (node-ends (p .0) (p .2) (p .3) f (faulty _) _ d (at-exit-taken .exit-taken .ensures) (at-if2 .if2 .taken)) (at-put .put .ensures))
     -- node-value-node-value-requires
-    (λ c κs. let s = c .before .before .before .before .before .before .before .before .before .before .before .before .before .before .before .before .before in
-    let p = s .pre .1 in
-    let v = c .before .before .before .before .before .graph-value .ensures in
-    let n = node-goes (p .0) (p .1) (p .2) (c .before .before .before .before .before .before .before .before .before .before .before .first-node .ensures) (c .before .before .before .before .before .before .before .graph-read .ensures) (v .right) (c .before .before .exit-taken .ensures) (c .before .if2 .left) in
-    (omega (arith, s .pre .0, n .0, n .1, p .2), (p .0, p .1, n .1, v .saved)))
+    (λ c κs.
+    let at-if2 = c .before in
+    let at-exit-taken = at-if2 .before in
+    let at-decision = at-exit-taken .before in
+    let at-graph-value = at-decision .before .before .before .before in
+    let at-graph-read = at-graph-value .before .before in
+    let at-first-node = at-graph-read .before .before .before .before in
+    let start = at-first-node .before .before .before .before .before .before in
+    let p = start .pre .1 in
+    let f = at-first-node .first-node .ensures in
+    let v = at-graph-value .graph-value .ensures in
+    let d = decision-found _ (p .0) (p .2) (p .3) f (at-graph-read .graph-read .ensures) v (at-decision .decision .ensures) in
+    let n = node-goes (p .0) (p .2) (p .3) f (faulty _) _ d (at-exit-taken .exit-taken .ensures) (at-if2 .if2 .left) in
+    (omega (arith, start .pre .0, n .0, n .1, p .3), (p .0, p .1, p .2, n .1, v .saved)))
     -- node-value-put-requires-2
-    (λ c κs. let p = c .before .before .before .before .before .before .before .before .before .before .before .before .before .before .before .before .before .before .before .before .before .pre .1 in omega (arith, node-inside (p .0) (p .1) (p .2) (c .before .before .before .before .before .before .before .before .before .before .before .before .before .before .before .first-node .ensures), c .before .before .before .node-value .ensures .saved .long))
+    (λ c κs.
+    let at-node-value = c .before .before .before in
+    let at-saved = at-node-value .before .before .before .before .before .before .before in
+    let at-first-node = at-saved .before .before .before .before .before .before .before in
+    let start = at-first-node .before .before .before .before .before .before in
+    let p = start .pre .1 in
+    omega (arith, place-below (p .0) (p .2) (p .3) (at-first-node .first-node .ensures), at-node-value .node-value .ensures .saved .long))
     -- node-value-same-length-3
     (λ c. search needs)
     -- node-value-returns-3
-    (λ c. let p = c .before .before .before .before .before .before .before .before .before .before .before .before .before .before .before .before .before .before .before .before .before .before .before .before .pre .1 in
-    let f = c .before .before .before .before .before .before .before .before .before .before .before .before .before .before .before .before .before .before .first-node .ensures in
-    let v = c .before .before .before .before .before .before .before .before .before .before .before .before .graph-value .ensures in
-    let w = c .before .before .before .before .before .before .node-value .ensures in
-    let n = node-goes (p .0) (p .1) (p .2) f (c .before .before .before .before .before .before .before .before .before .before .before .before .before .before .graph-read .ensures) (v .right) (c .before .before .before .before .before .before .before .before .before .exit-taken .ensures) (c .before .before .before .before .before .before .before .before .if2 .left) in
-    node-saved (p .0) (p .1) (p .2) f (w .saved) (w .right ∙ sym (n .2)) (c .before .before .put2 .ensures))
+    (λ c.
+    let at-put2 = c .before .before in
+    let at-node-value = at-put2 .before .before .before .before in
+    let at-if2 = at-node-value .before .before in
+    let at-exit-taken = at-if2 .before in
+    let at-decision = at-exit-taken .before in
+    let at-graph-value = at-decision .before .before .before .before in
+    let at-graph-read = at-graph-value .before .before in
+    let at-first-node = at-graph-read .before .before .before .before in
+    let start = at-first-node .before .before .before .before .before .before in
+    let p = start .pre .1 in
+    let f = at-first-node .first-node .ensures in
+    let v = at-graph-value .graph-value .ensures in
+    let w = at-node-value .node-value .ensures in
+    let d = decision-found _ (p .0) (p .2) (p .3) f (at-graph-read .graph-read .ensures) v (at-decision .decision .ensures) in
+    let n = node-goes (p .0) (p .2) (p .3) f (faulty _) _ d (at-exit-taken .exit-taken .ensures) (at-if2 .if2 .left) in
+    node-saved _ (p .0) (p .2) (p .3) f (w .saved) (w .right ∙ sym (n .2)) (at-put2 .put2 .ensures))

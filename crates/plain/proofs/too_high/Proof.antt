@@ -1,4 +1,5 @@
 -- `plain::too_high` meets its contract. Assumes nothing.
+-- The invariant: none of the numbers below i is too high.
 use Prim.Native.Nat.{_≤_, _-_}
 use mathlib.Core.Bool.{false}
 use mathlib.Core.Path.{_≡_, sym}

@@ -1,53 +1,41 @@
 -- `plain::values_with` meets its contract. Assumes nothing.
 use mathlib.Core.Path.{sym, _∙_}
-use native.Mathlib.Omega.{arith}
 use borrow.Author.Needs.{needs}
-use Rattle.vectors.proofs.Laws.{vector-long}
-use Rattle.form.proofs.Calls.{card-refused, call-refused, call-done}
-use Rattle.form.proofs.Checked.{check-accepts}
-use Rattle.plain.proofs.Calls.{vector-stops, number-stops, room-stops, tests-sound}
+use Rattle.answers.proofs.Calls.{call-stops, call-breaks, call-done}
+use Rattle.opening.proofs.Laws.{vector-asks}
+use Rattle.plain.specs.Calls.{valuesTests}
+use Rattle.plain.proofs.Calls.{values-room}
 use Rattle.plain.proofs.values_with.Statement.{statement}
 use Rattle.plain.proofs.values_with.Tie as tie
 
-check-vector-requires : tie.Need-check-vector-requires
-check-vector-requires c κs =
-    let a = check-accepts _ _ _ (sym (c .before .before .before .check .ensures) ∙ c .before .c .given .1) in
-    omega (arith, a .some-input, a .shape .inputs-in, a .shape .few-graphs)
-
 returns : tie.Need-returns
 returns c =
-    let a = sym (c .before .before .before .before .before .before .before .check .ensures) ∙ c .before .before .before .before .before .c .given .1 in
-    call-refused _ _ _ _ a (vector-stops _ _ _ _ (sym (c .before .before .before .check-vector .ensures) ∙ c .before .rule2 .given .1))
-
-returns-2 : tie.Need-returns-2
-returns-2 c =
-    let a = sym (c .before .before .before .before .before .before .before .before .check .ensures) ∙ c .before .before .before .before .before .before .c .given .1 in
-    let v = sym (c .before .before .before .before .check-vector .ensures) ∙ c .before .before .enum-told .given .1 in
-    call-refused _ _ _ _ a (number-stops _ _ _ _ v (sym (c .before .too-high .ensures) ∙ c .if1 .taken))
-
-returns-3 : tie.Need-returns-3
-returns-3 c =
-    let a = sym (c .before .before .before .before .before .before .before .before .before .before .check .ensures) ∙ c .before .before .before .before .before .before .before .before .c .given .1 in
-    let v = sym (c .before .before .before .before .before .before .check-vector .ensures) ∙ c .before .before .before .before .enum-told .given .1 in
-    call-refused _ _ _ _ a (room-stops _ _ _ _ v (sym (c .before .before .before .too-high .ensures) ∙ c .before .before .if1 .left) (c .if2 .taken))
+    let at-tests = c .before .before .before in
+    let at-c = at-tests .before .before in
+    call-breaks _ _ (valuesTests _ _) _ _ _ (sym (at-c .before .before .open-vector .ensures) ∙ at-c .c .given .1)
+    (sym (at-tests .test-values .ensures) ∙ c .before .rule2 .given .1)
 
 work-out-requires : tie.Need-work-out-requires
 work-out-requires c κs =
-    let a = check-accepts _ _ _ (sym (c .before .before .before .before .before .before .before .before .before .before .before .check .ensures) ∙ c .before .before .before .before .before .before .before .before .before .c .given .1) in
-    let v = sym (c .before .before .before .before .before .before .before .check-vector .ensures) ∙ c .before .before .before .before .before .enum-told .given .1 in
-    (a .shape, omega (arith, vector-long _ _ v), c .before .if2 .left)
+    let at-tests = c .before .before .before in
+    let at-c = at-tests .before .before in
+    let w = vector-asks _ _ (sym (at-c .before .before .open-vector .ensures) ∙ at-c .c .given .1) in
+    (w .0, w .1, values-room _ _ _ (sym (at-tests .test-values .ensures) ∙ c .before .enum-told .given .1))
 
-returns-4 : tie.Need-returns-4
-returns-4 c = card-refused _ _ _ _ (sym (c .before .before .before .check .ensures) ∙ c .before .rule .given .1)
+returns-2 : tie.Need-returns-2
+returns-2 c = call-stops _ _ (valuesTests _ _) _ _ _ (sym (c .before .before .before .open-vector .ensures) ∙ c .before .rule .given .1)
 
-returns-5 : tie.Need-returns-5
-returns-5 c =
-    let a = sym (c .before .before .before .before .before .before .before .before .before .before .before .before .before .before .check .ensures) ∙ c .before .before .before .before .before .before .before .before .before .before .before .before .c .given .1 in
-    let v = sym (c .before .before .before .before .before .before .before .before .before .before .check-vector .ensures) ∙ c .before .before .before .before .before .before .before .before .enum-told .given .1 in
-    let d = call-done _ _ _ _ a (tests-sound _ _ _ _ v (sym (c .before .before .before .before .before .before .before .too-high .ensures) ∙ c .before .before .before .before .before .before .if1 .left) (c .before .before .before .before .if2 .left)) in
-    (d .0, c .before .before .work-out .ensures ∙ d .1)
+returns-3 : tie.Need-returns-3
+returns-3 c =
+    let at-work = c .before .before in
+    let at-sound = at-work .before .before in
+    let at-tests = at-sound .before .before in
+    let at-c = at-tests .before .before in
+    let d = call-done _ _ (valuesTests _ _) _ _ _ (sym (at-c .before .before .open-vector .ensures) ∙ at-c .c .given .1)
+    (sym (at-tests .test-values .ensures) ∙ at-sound .enum-told .given .1) in
+    (d .0, at-work .work-out .ensures ∙ d .1)
 
 pub values-with-spec : {M : Type 1} → statement M
 values-with-spec =
     tie.close
-    (tie.spec (λ c κs. search needs) (λ c. search needs) (λ c. search needs) check-vector-requires (λ c. search needs) returns (λ c. search needs) (λ c κs. search needs) returns-2 returns-3 work-out-requires returns-4 (λ c. search needs) returns-5)
+    (tie.spec (λ c κs. search needs) (λ c. search needs) (λ c. search needs) (λ c κs. search needs) (λ c. search needs) returns (λ c. search needs) work-out-requires returns-2 (λ c. search needs) returns-3)

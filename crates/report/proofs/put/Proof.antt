@@ -1,4 +1,4 @@
--- `report::put` meets its contract. Assumes nothing.
+-- `report::put` meets its contract. The invariant: the first i bytes are in, and all others as they were. Assumes nothing.
 use Rattle.report.proofs.put.Tie as tie
 use Prim.Native.Nat.{_≤_, _-_, _+_}
 use Rattle.report.proofs.Puts.{puts-none, puts-next, puts-all}

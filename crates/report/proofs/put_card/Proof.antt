@@ -9,8 +9,9 @@ use native.Mathlib.Omega.{arith}
 returns : tie.Need-returns
 unfolding cardLine
 returns c =
-    let p = c .before .before .before .before .before .before .before .before .before .before .before .put .ensures in
-    let q = c .before .before .before .before .before .before .before .put-counts .ensures in
+    let at-put-counts = c .before .before .before .before .before .before .before in
+    let p = at-put-counts .before .before .before .before .put .ensures in
+    let q = at-put-counts .put-counts .ensures in
     let r = c .before .before .put2 .ensures in
     (puts-then (puts-then p (q .0)) r, omega (arith, p .ends, q .1, r .ends))
 

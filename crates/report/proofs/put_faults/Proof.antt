@@ -1,4 +1,4 @@
--- `report::put_faults` meets its contract. Assumes nothing.
+-- `report::put_faults` meets its contract. The invariant: the lines of the faults below f are in. Assumes nothing.
 use Rattle.report.proofs.put_faults.Tie as tie
 use Prim.Native.Nat.{_≤_, _-_, _+_, _*_}
 use Rattle.report.proofs.Cases.{lines-none, lines-next}

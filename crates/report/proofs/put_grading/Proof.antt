@@ -8,8 +8,9 @@ use borrow.Author.Needs.{needs}
 returns : tie.Need-returns
 unfolding gradingText
 returns c =
-    let p = c .before .before .before .before .before .before .before .before .before .before .before .put-card .ensures in
-    let q = c .before .before .before .before .before .before .before .put-faults .ensures in
+    let at-put-faults = c .before .before .before .before .before .before .before in
+    let p = at-put-faults .before .before .before .before .put-card .ensures in
+    let q = at-put-faults .put-faults .ensures in
     puts-then (puts-then (p .0) (q .0)) (c .before .before .put-line .ensures)
 
 pub put-grading-spec : {M : Type 1} → statement M

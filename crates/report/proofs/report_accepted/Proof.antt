@@ -8,20 +8,22 @@ use native.Mathlib.Omega.{arith}
 
 put-grading-requires : tie.Need-put-grading-requires
 put-grading-requires c κs =
-    let m = c .before .before .before .before .before .before .before .before .before .before .before in
+    let at-fault-room-2 = c .before .before .before .before .before .before in
+    let m = at-fault-room-2 .before .before .before .before .before in
     let f = few-faults _ (m .before .before .before .before .before .before .pre .0) in (
       omega arith,
       f,
       omega (arith, f, m .before .before .fault-room .ensures, m .first-marking .kept .1 .1 .0),
-      omega (arith, f, c .before .before .before .before .before .before .fault-room2 .ensures, c .before .before .before .before .tally .kept .1 .1 .0),
+      omega (arith, f, at-fault-room-2 .fault-room2 .ensures, c .before .before .before .before .tally .kept .1 .1 .0),
     )
 
 returns : tie.Need-returns
 returns c =
-    let m = c .before .before .before .before .before .before .before .before .before in
+    let at-rule = c .before .before .before .before .before .before in
+    let m = at-rule .before .before .before in
     let e = m .before .before .before .before .before .before .pre .0 in
     let b = m .before .before .fault-room in
-    let q = sym (m .first-marking .ensures .0) ∙ c .before .before .before .before .before .before .rule .given .1 in
+    let q = sym (m .first-marking .ensures .0) ∙ at-rule .rule .given .1 in
     rw (list-refused _ _ e (b .result) (omega (arith, few-faults _ e, b .ensures)) q, ← c .before .before .before .rule-number .ensures)
     (c .before .before .put-refused .ensures)
 

@@ -15,8 +15,9 @@ slice-aggregate-report-words-2 c = sym (length-take-le _ _ (omega arith))
 
 returns : tie.Need-returns
 returns c =
-    let x = c .before .before .before .before .before .before .before .before .before .before .before .words-of .ensures in
-    let y = c .before .before .before .before .before .before .before .words-of2 .ensures in
+    let at-words-of-2 = c .before .before .before .before .before .before .before in
+    let x = at-words-of-2 .before .before .before .before .words-of .ensures in
+    let y = at-words-of-2 .words-of2 .ensures in
     rw (← words-front _ _ _ _ (x .0) (x .1), ← words-front _ _ _ _ (y .0) (y .1)) (c .before .before .report-words .ensures)
 
 pub report-parts-spec : {M : Type 1} → statement M

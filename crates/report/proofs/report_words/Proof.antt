@@ -12,7 +12,8 @@ report-accepted-requires c κs =
 
 returns : tie.Need-returns
 returns c =
-    let e = sym (c .before .before .before .before .before .before .before .before .check .ensures) ∙ c .before .before .before .before .before .before .rule .given .1 in
+    let at-rule = c .before .before .before .before .before .before in
+    let e = sym (at-rule .before .before .check .ensures) ∙ at-rule .rule .given .1 in
     rw (graded-refused _ _ e, ← c .before .before .before .rule-number .ensures) (c .before .before .put-refused .ensures)
 
 pub report-words-spec : {M : Type 1} → statement M

@@ -1,6 +1,6 @@
 -- `running::caught_word` meets its contract. Assumes nothing.
 use Rattle.running.proofs.caught_word.Tie as tie
-use Rattle.running.proofs.Fold.{counts, marks, keeps}
+use Rattle.running.proofs.Fold.{counts, first-mark, keeps}
 use Rattle.running.proofs.caught_word.Statement.{statement}
 use borrow.Author.Needs.{needs}
 use borrow.Author.Tests.{not-true, not-false}
@@ -19,7 +19,7 @@ add-result-2 c = search needs
 
 returns-2 : tie.Need-returns-2
 returns-2 c =
-    marks _ _ _ (not-false (c .before .before .args .drops) (c .before .if1 .left)) (c .if2 .taken)
+    first-mark _ _ _ (not-false (c .before .before .args .drops) (c .before .if1 .left)) (c .if2 .taken)
 
 returns-3 : tie.Need-returns-3
 returns-3 c =

@@ -1,4 +1,5 @@
 -- `running::take_places` meets its contract. Assumes nothing.
+-- The invariant: the words of the places below p are taken in and the others as they were, and m counts the words that are not blank.
 use Rattle.running.proofs.take_places.Tie as tie
 use Prim.Native.Nat.{_≤_, _-_, _*_}
 use Rattle.running.proofs.Fold.{found-more, found-few, small-rest, folded-none, folded-more}
@@ -10,11 +11,11 @@ use mathlib.Core.Path.{_≡_, refl}
 use native.Mathlib.Omega.{arith}
 
 abbrev Inv-loop : tie.InvT-loop
-Inv-loop drops t n caught marked words₀ m₀ p₀ words m p =
-    (p ≤ n) × (length words ≡ length words₀) × (m ≡ found drops words (2 * n)) × Folded drops t p caught words₀ words
+Inv-loop drops t n caught marked marks₀ m₀ p₀ marks m p =
+    (p ≤ n) × (length marks ≡ length marks₀) × (m ≡ found drops marks (2 * n)) × Folded drops t p caught marks₀ marks
 
 abbrev μ-loop : tie.MeasureT-loop
-μ-loop drops t n caught marked words₀ m₀ p₀ words m p =
+μ-loop drops t n caught marked marks₀ m₀ p₀ marks m p =
     n - p
 
 loop-holds : tie.Need-loop-holds Inv-loop μ-loop
@@ -30,11 +31,12 @@ take-place-requires : tie.Need-take-place-requires Inv-loop μ-loop
 take-place-requires c κs =
     let s = c .before .before .before .before .before .before .pre in
     let l = c .before .before .before .loop in
-    (s .0, omega (arith, s .1, l .inv .2, found-few (c .before .before .before .before .before .before .args .drops) (l .words) (2 * c .before .before .before .before .before .before .args .n)), omega (arith, s .1, c .before .before .loop-test .taken), omega (arith, s .3, l .inv .1, c .before .before .loop-test .taken), small-rest (s .5) (l .inv .3) (omega (arith, c .before .before .loop-test .taken)))
+    (s .0, omega (arith, s .1, l .inv .2, found-few (c .before .before .before .before .before .before .args .drops) (l .marks) (2 * c .before .before .before .before .before .before .args .n)), omega (arith, s .1, c .before .before .loop-test .taken), omega (arith, s .3, l .inv .1, c .before .before .loop-test .taken), small-rest (s .5) (l .inv .3) (omega (arith, c .before .before .loop-test .taken)))
 
 add-p : tie.Need-add-p Inv-loop μ-loop
 add-p c =
-    omega (arith, c .before .before .before .before .before .before .before .before .before .pre .1, c .before .before .before .before .before .loop-test .taken)
+    let at-loop-test = c .before .before .before .before .before in
+    omega (arith, at-loop-test .before .before .before .before .pre .1, at-loop-test .loop-test .taken)
 
 loop-less : tie.Need-loop-less Inv-loop μ-loop
 loop-less c =
@@ -42,8 +44,9 @@ loop-less c =
 
 loop-again : tie.Need-loop-again Inv-loop μ-loop
 loop-again c =
-    let s = c .before .before .before .before .before .before .before .before .before .pre in
-    let l = c .before .before .before .before .before .before .loop in
+    let at-loop = c .before .before .before .before .before .before in
+    let s = at-loop .before .before .before .pre in
+    let l = at-loop .loop in
     let k = c .before .before .take-place .kept .1 .1 .1 .1 .1 .0 in
     let e = c .before .before .take-place .ensures in
     (omega (arith, c .before .before .before .before .before .loop-test .taken), omega (arith, l .inv .1, k), found-more e (c .before .before .before .before .before .loop-test .taken) (omega (arith, s .3, l .inv .1)) (l .inv .2), folded-more (l .inv .3) (c .before .before .before .before .get .ensures) (omega (arith, s .3, l .inv .1, c .before .before .before .before .before .loop-test .taken)) e)

@@ -1,40 +1,55 @@
 -- `sweep::sweep_node` meets its contract. Assumes nothing.
 use native.Mathlib.Omega.{arith}
+use Rattle.layout.proofs.Places.{walkable, node-inside, read-below, place-below, exit-below}
+use Rattle.sweep.proofs.Laws.{node-stored}
 use borrow.Author.Needs.{needs}
-use Rattle.value.proofs.Run.{place-is, node-inside}
-use Rattle.sweep.proofs.Laws.{read-inside, exit-inside, node-stored}
 use Rattle.sweep.proofs.sweep_node.Statement.{statement}
 use Rattle.sweep.proofs.sweep_node.Tie as tie
 
 add-j : tie.Need-add-j
-add-j c = let p = c .before .before .before .before .before .pre in omega (arith, node-inside (p .0) (p .1) (p .2) (c .first-node .ensures), p .0 .shape .few-nodes)
+add-j c =
+    let start = c .before .before .before .before in
+    omega (arith, place-below (start .pre .0) (start .pre .1) (start .pre .2) (c .first-node .ensures), start .pre .0 .shape .few-nodes)
 
-graph-read-requires : tie.Need-graph-read-requires
-graph-read-requires c κs = let p = c .before .before .before .before .before .pre in omega (arith, node-inside (p .0) (p .1) (p .2) (c .first-node .ensures))
+decision-requires : tie.Need-decision-requires
+decision-requires c κs =
+    let at-first-node = c .before in
+    let start = at-first-node .before .before .before .before in
+    let y = walkable (start .pre .0) (start .pre .1) in
+    let f = at-first-node .first-node .ensures in
+    (omega (arith, node-inside y (start .pre .2) f), omega (arith, read-below y (start .pre .2) f, start .pre .1, start .pre .3))
 
-get-requires : tie.Need-get-requires
-get-requires c κs = let p = c .before .before .before .before .before .before .before .before .pre in read-inside (p .0) (p .1) (p .2) (c .before .before .before .first-node .ensures) (p .3) (c .before .before .graph-read .ensures)
-
-exit-taken-requires : tie.Need-exit-taken-requires
-exit-taken-requires c κs =
-    let p = c .before .before .before .before .before .before .before .before .before .before .pre in
-    let f = c .before .before .before .before .before .first-node .ensures in
-    (node-inside (p .0) (p .1) (p .2) f .1, place-is (p .0) (p .1) (p .2) f)
+exit-at-requires : tie.Need-exit-at-requires
+exit-at-requires c κs =
+    let at-first-node = c .before .before in
+    let start = at-first-node .before .before .before .before in
+    node-inside (walkable (start .pre .0) (start .pre .1)) (start .pre .2) (at-first-node .first-node .ensures)
 
 exit-value-requires : tie.Need-exit-value-requires
 exit-value-requires c κs =
-    let p = c .before .before .before .before .before .before .before .before .before .before .before .before .pre in
-    exit-inside (p .0) (p .1) (p .2) (c .before .before .before .before .before .before .before .first-node .ensures) (p .3) (c .before .before .before .before .before .before .graph-read .ensures) (c .before .before .before .get .ensures) (c .before .exit-taken .ensures)
+    let at-exit-at = c .before in
+    let at-decision = at-exit-at .before in
+    let at-first-node = at-decision .before .before in
+    let start = at-first-node .before .before .before .before in
+    λ b. omega (arith, exit-below (start .pre .0) (start .pre .1) (start .pre .2) (at-first-node .first-node .ensures) (at-decision .decision .result) (at-exit-at .exit-at .ensures) b, start .pre .3)
 
 put-requires : tie.Need-put-requires
-put-requires c κs = let p = c .before .before .before .before .before .before .before .before .before .before .before .before .before .before .pre in omega (arith, node-inside (p .0) (p .1) (p .2) (c .before .before .before .before .before .before .before .before .before .first-node .ensures), p .3 .done .long)
+put-requires c κs =
+    let at-first-node = c .before .before .before .before .before .before in
+    let start = at-first-node .before .before .before .before in
+    omega (arith, place-below (start .pre .0) (start .pre .1) (start .pre .2) (at-first-node .first-node .ensures), start .pre .3)
 
 returns : tie.Need-returns
 returns c =
-    let p = c .before .before .before .before .before .before .before .before .before .before .before .before .before .before .before .before .before .pre in
-    node-stored (p .0) (p .1) (p .2) (c .before .before .before .before .before .before .before .before .before .before .before .before .first-node .ensures) (p .3) (c .before .before .before .before .before .before .before .before .before .before .before .graph-read .ensures) (c .before .before .before .before .before .before .before .before .get .ensures) (c .before .before .before .before .before .before .exit-taken .ensures) (c .before .before .before .before .exit-value .ensures) (c .before .before .put .ensures)
+    let at-put = c .before .before in
+    let at-exit-value = at-put .before .before in
+    let at-exit-at = at-exit-value .before .before in
+    let at-decision = at-exit-at .before in
+    let at-first-node = at-decision .before .before in
+    let start = at-first-node .before .before .before .before in
+    λ x p. node-stored (start .pre .0) (start .pre .1) (start .pre .2) (at-first-node .first-node .ensures) x _ (at-decision .decision .ensures) (at-exit-at .exit-at .ensures) p (at-exit-value .exit-value .ensures) (at-put .put .ensures)
 
 pub sweep-node-spec : {M : Type 1} → statement M
 sweep-node-spec =
     tie.close
-    (tie.spec (λ c κs. search needs) add-j graph-read-requires (λ c. search needs) get-requires (λ c. search needs) (λ c. search needs) exit-taken-requires exit-value-requires put-requires (λ c. search needs) returns)
+    (tie.spec (λ c κs. search needs) add-j decision-requires exit-at-requires exit-value-requires put-requires (λ c. search needs) returns)

@@ -1,4 +1,4 @@
--- `value::set_at` meets its contract: the faults passed hold another place. Assumes nothing.
+-- `value::set_at` meets its contract. The invariant: the faults below i hold another place, so that those from i on give what all do. Assumes nothing.
 use Prim.Native.Nat.{_-_}
 use mathlib.Core.Path.{_≡_, refl, sym, _∙_}
 use native.Mathlib.Omega.{arith}

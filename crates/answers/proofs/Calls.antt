@@ -1,0 +1,67 @@
+-- How a call goes, in words or in bytes: the card or its vectors are refused, or a test of the call's own is broken, or it is done. Assumes nothing.
+use Prim.Native.Nat.{ℕ}
+use mathlib.Core.Path.{_≡_, refl, _∙_}
+use mathlib.Core.List.{List}
+use native.Mathlib.Omega.{arith}
+use Rattle.answers.specs.declared.Rule.{Rule}
+use Rattle.answers.specs.declared.Counts.{Counts}
+use Rattle.answers.specs.declared.Verdict.{Verdict}
+use Rattle.answers.specs.declared.Verdict.the-variants.{Sound, Broken}
+use Rattle.answers.specs.declared.Answer.{Answer}
+use Rattle.answers.specs.declared.Answer.the-variants as answer
+use Rattle.answers.specs.declared.Reply.the-variants as reply
+use Rattle.answers.specs.Tests.{Test, firstBroken, onward}
+use Rattle.answers.specs.Calls.{opened, callTests, replied, written}
+
+pub not-accepted : {r : Rule} {p : ℕ} {c : Counts} → answer.Refused r p ≡ answer.Accepted c → ⊥
+not-accepted e = let z : _≡_ {A = ℕ} 0 1 = cc in omega arith
+
+onward-breaks : (u : Verdict) (c : Counts) {r : Rule} {p : ℕ} → onward u (answer.Accepted c) ≡ answer.Refused r p → u ≡ Broken r p
+onward-breaks Sound c e = cc
+onward-breaks (Broken r p) c e = cc
+
+onward-goes : (u : Verdict) (c : Counts) {d : Counts} → onward u (answer.Accepted c) ≡ answer.Accepted d → (c ≡ d) × (u ≡ Sound)
+onward-goes Sound c e = (cc, refl)
+onward-goes (Broken r p) c e = (cc, cc)
+
+-- how a call opens: its card is refused, or its vectors, or it goes on
+module _ (a : Answer) (form : Counts → Verdict) where
+  pub open-refused : {r : Rule} {p : ℕ} → a ≡ answer.Refused r p → answer.Refused r p ≡ opened a form
+  open-refused e = rw e
+
+  pub open-breaks : {c : Counts} {r : Rule} {p : ℕ} → a ≡ answer.Accepted c → form c ≡ Broken r p → answer.Refused r p ≡ opened a form
+  open-breaks e q = rw (e, q)
+
+  pub open-goes : {c : Counts} → a ≡ answer.Accepted c → form c ≡ Sound → answer.Accepted c ≡ opened a form
+  open-goes e q = rw (e, q)
+
+-- a call without vectors opens with its card alone
+pub opened-card : (a : Answer) → opened a (λ c. Sound) ≡ a
+opened-card (answer.Accepted c) = refl
+opened-card (answer.Refused r p) = refl
+
+pub opened-accepted : (a : Answer) (form : Counts → Verdict) {c : Counts} → opened a form ≡ answer.Accepted c → (a ≡ answer.Accepted c) × (form c ≡ Sound)
+opened-accepted (answer.Accepted d) form e = let (i, s) = onward-goes (form d) d e in (rw i, rw (← i) s)
+opened-accepted (answer.Refused r p) form e = (cc, cc)
+
+-- how it goes on
+abbrev tests : (Counts → Verdict) → (Counts → List Test) → Counts → Verdict
+tests form own c = callTests (form c) (own c)
+
+module _ (a : Answer) (form : Counts → Verdict) (own : Counts → List Test) (number : Counts → ℕ) (after : Counts → List ℕ) (before : List ℕ) where
+  pub call-stops : {r : Rule} {p : ℕ} → opened a form ≡ answer.Refused r p → (reply.Refused r p ≡ replied a (tests form own) number) × (before ≡ written a (tests form own) after before)
+  unfolding replied written
+  call-stops {r} {p} e = go a refl e
+    where
+      go : (b : Answer) → a ≡ b → opened b form ≡ answer.Refused r p → (reply.Refused r p ≡ replied a (tests form own) number) × (before ≡ written a (tests form own) after before)
+      go (answer.Accepted c) h i = let u = onward-breaks (form c) c i in (rw (h, u), rw (h, u))
+      go (answer.Refused s q) h i = let u = h ∙ i in (rw u, rw u)
+
+  module _ {c : Counts} (e : opened a form ≡ answer.Accepted c) where
+    pub call-breaks : {r : Rule} {p : ℕ} → firstBroken (own c) ≡ Broken r p → (reply.Refused r p ≡ replied a (tests form own) number) × (before ≡ written a (tests form own) after before)
+    unfolding replied written
+    call-breaks q = let (h, u) = opened-accepted a form e in (rw (h, u, q), rw (h, u, q))
+
+    pub call-done : firstBroken (own c) ≡ Sound → (reply.Done (number c) ≡ replied a (tests form own) number) × (after c ≡ written a (tests form own) after before)
+    unfolding replied written
+    call-done q = let (h, u) = opened-accepted a form e in (rw (h, u, q), rw (h, u, q))

@@ -1,0 +1,3 @@
+-- What sound verdicts tell, and how a call goes.
+pub mod Tests
+pub mod Calls

@@ -1,0 +1,67 @@
+// Document 01's rules, the answers of a check and the replies of calls; in specs/ how tests come in their order, and how any call goes.
+ghost use mathlib.Core.Path.{_≡_};
+ghost use Rattle.answers.specs.Answers.{numberOf};
+
+// The rules of document 01's table of refusals. `rule_number` gives each its number.
+pub enum Rule {
+    CardTooLong,
+    TooManyGraphs,
+    NodeCount,
+    WordNotDue,
+    StrayBit,
+    ReadNotBelow,
+    ExitNotLater,
+    NodeNotNamed,
+    NothingObservable,
+    VectorForm,
+    NumberTooHigh,
+    BufferTooShort,
+}
+
+// The numbers that a check answers.
+pub struct Counts {
+    pub inputs: usize,
+    pub graphs: usize,
+    pub nodes: usize,
+    pub observable: usize,
+    pub faults: usize,
+}
+
+// The answer of a check: a refusal has its rule and its position.
+pub enum Answer {
+    Accepted(Counts),
+    Refused(Rule, usize),
+}
+
+// The reply of a call that works on a card: done, with the number that document 01 says it tells beside its buffer (the length of a
+// change list, the marked count of a grading, else 0); or refused, as a check is.
+pub enum Reply {
+    Done(usize),
+    Refused(Rule, usize),
+}
+
+// What a part of the check finds.
+pub enum Verdict {
+    Sound,
+    Broken(Rule, usize),
+}
+
+// A rule's number in document 01.
+pub fn rule_number(rule: Rule) -> u32
+    ensures { λ r. ⌜ r ≡ numberOf rule ⌝ }
+{
+    match rule {
+        Rule::CardTooLong => 1,
+        Rule::TooManyGraphs => 2,
+        Rule::NodeCount => 3,
+        Rule::WordNotDue => 4,
+        Rule::StrayBit => 5,
+        Rule::ReadNotBelow => 6,
+        Rule::ExitNotLater => 7,
+        Rule::NodeNotNamed => 8,
+        Rule::NothingObservable => 9,
+        Rule::VectorForm => 10,
+        Rule::NumberTooHigh => 11,
+        Rule::BufferTooShort => 12,
+    }
+}

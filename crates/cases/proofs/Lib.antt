@@ -1,0 +1,2 @@
+-- Document 01's starred cases, computed.
+pub mod Starred

@@ -1,0 +1,41 @@
+-- `changes::critical_nodes` meets its contract. Assumes nothing.
+use mathlib.Core.Path.{sym, _∙_}
+use borrow.Author.Needs.{needs}
+use Rattle.answers.proofs.Calls.{call-stops, call-breaks, call-done}
+use Rattle.opening.proofs.Laws.{vector-asks}
+use Rattle.changes.specs.Calls.{criticalTests}
+use Rattle.changes.proofs.Laws.{critical-room}
+use Rattle.changes.proofs.critical_nodes.Statement.{statement}
+use Rattle.changes.proofs.critical_nodes.Tie as tie
+
+returns : tie.Need-returns
+returns c =
+    let at-tests = c .before .before .before in
+    let at-c = at-tests .before .before in
+    call-breaks _ _ (criticalTests _) _ _ _ (sym (at-c .before .before .open-vector .ensures) ∙ at-c .c .given .1)
+    (sym (at-tests .test-critical .ensures) ∙ c .before .rule2 .given .1)
+
+work-out-critical-requires : tie.Need-work-out-critical-requires
+work-out-critical-requires c κs =
+    let at-tests = c .before .before .before in
+    let at-c = at-tests .before .before in
+    let w = vector-asks _ _ (sym (at-c .before .before .open-vector .ensures) ∙ at-c .c .given .1) in
+    (w .0, w .1, critical-room _ _ (sym (at-tests .test-critical .ensures) ∙ c .before .enum-told .given .1))
+
+returns-2 : tie.Need-returns-2
+returns-2 c = call-stops _ _ (criticalTests _) _ _ _ (sym (c .before .before .before .open-vector .ensures) ∙ c .before .rule .given .1)
+
+returns-3 : tie.Need-returns-3
+returns-3 c =
+    let at-work = c .before .before in
+    let at-sound = at-work .before .before in
+    let at-tests = at-sound .before .before in
+    let at-c = at-tests .before .before in
+    let d = call-done _ _ (criticalTests _) _ _ _ (sym (at-c .before .before .open-vector .ensures) ∙ at-c .c .given .1)
+    (sym (at-tests .test-critical .ensures) ∙ at-sound .enum-told .given .1) in
+    (d .0, at-work .work-out-critical .ensures ∙ d .1)
+
+pub critical-nodes-spec : {M : Type 1} → statement M
+critical-nodes-spec =
+    tie.close
+    (tie.spec (λ c κs. search needs) (λ c. search needs) (λ c. search needs) (λ c κs. search needs) (λ c. search needs) returns (λ c. search needs) work-out-critical-requires returns-2 (λ c. search needs) returns-3)

@@ -1,0 +1,2 @@
+-- Where a broken test of a call stands.
+mod Laws

@@ -1,0 +1,80 @@
+-- `hostchanges::critical_nodes` meets its contract. Assumes nothing.
+use mathlib.Core.Path.{sym, ap, _∙_}
+use borrow.Author.Needs.{needs}
+use Rattle.answers.proofs.Calls.{call-stops, call-breaks, call-done}
+use Rattle.changes.specs.Calls.{criticalTests}
+use Rattle.changes.proofs.Laws.{critical-room}
+use Rattle.inbytes.specs.Calls.{hostAnswer}
+use Rattle.inbytes.proofs.Laws.{words-slice, bytes-ask}
+use Rattle.hostchanges.proofs.Laws.{critical-low}
+use Rattle.hostchanges.proofs.critical_nodes.Statement.{statement}
+use Rattle.hostchanges.proofs.critical_nodes.Tie as tie
+
+refusal-requires : tie.Need-refusal-requires
+refusal-requires c κs = c .before .before .before .before .before .open-vector .ensures .low _ _ (c .before .rule .given .1)
+
+refusal-requires-2 : tie.Need-refusal-requires-2
+refusal-requires-2 c κs = critical-low _ _ (sym (c .before .before .before .test-critical .ensures) ∙ c .before .rule2 .given .1)
+
+returns : tie.Need-returns
+returns c =
+    let at-tests = c .before .before .before .before in
+    let at-c = at-tests .before .before in
+    let at-open = at-c .before .before .before .before in
+    let d = call-breaks _ _ (criticalTests _) _ _ _ (sym (at-open .open-vector .ensures .told) ∙ at-c .c .given .1)
+    (sym (at-tests .test-critical .ensures) ∙ c .before .before .rule2 .given .1) in
+    (c .refusal2 .ensures ∙ ap hostAnswer (d .0), d .1)
+
+array-share-prefix-ws : tie.Need-array-share-prefix-ws
+array-share-prefix-ws c =
+    let at-c = c .before .before .before .before in
+    at-c .before .before .before .before .open-vector .ensures .card-in _ (at-c .c .given .1) .fits
+
+slice-aggregate-write-critical : tie.Need-slice-aggregate-write-critical
+slice-aggregate-write-critical c =
+    let at-c = c .before .before .before .before .before in
+    words-slice _ _ (at-c .before .before .before .before .open-vector .ensures .card-in _ (at-c .c .given .1))
+
+array-share-prefix-x : tie.Need-array-share-prefix-x
+array-share-prefix-x c =
+    let at-c = c .before .before .before .before .before in
+    at-c .before .before .before .before .open-vector .ensures .vector-in _ (at-c .c .given .1) .fits
+
+slice-aggregate-write-critical-2 : tie.Need-slice-aggregate-write-critical-2
+slice-aggregate-write-critical-2 c =
+    let at-c = c .before .before .before .before .before .before in
+    words-slice _ _ (at-c .before .before .before .before .open-vector .ensures .vector-in _ (at-c .c .given .1))
+
+write-critical-requires : tie.Need-write-critical-requires
+write-critical-requires c κs =
+    let at-sound = c .before .before .before in
+    let at-tests = at-sound .before .before in
+    let at-c = at-tests .before .before in
+    let o = at-c .before .before .before .before .open-vector .ensures in
+    let a = at-c .c .given .1 in
+    let w = bytes-ask _ _ _ _ (sym (o .told) ∙ a) (o .card-in _ a) (o .vector-in _ a) in
+    let p = critical-room _ _ (sym (at-tests .test-critical .ensures) ∙ at-sound .enum-told .given .1) in
+    (w .0, w .1, p)
+
+returns-2 : tie.Need-returns-2
+returns-2 c =
+    let at-open = c .before .before .before .before .before .before in
+    let d = call-stops _ _ (criticalTests _) _ _ _ (sym (at-open .open-vector .ensures .told) ∙ c .before .before .rule .given .1) in
+    (c .refusal .ensures ∙ ap hostAnswer (d .0), d .1)
+
+returns-3 : tie.Need-returns-3
+returns-3 c =
+    let at-work = c .before .before in
+    let at-sound = at-work .before .before .before .before in
+    let at-tests = at-sound .before .before in
+    let at-c = at-tests .before .before in
+    let o = at-c .before .before .before .before .open-vector .ensures in
+    let a = at-c .c .given .1 in
+    let d = call-done _ _ (criticalTests _) _ _ _ (sym (o .told) ∙ a) (sym (at-tests .test-critical .ensures) ∙ at-sound .enum-told .given .1) in
+    let w = rw (o .card-in _ a .front, o .vector-in _ a .front) at (at-work .write-critical .ensures) in
+    (ap hostAnswer (d .0), w ∙ d .1)
+
+pub critical-nodes-spec : {M : Type 1} → statement M
+critical-nodes-spec =
+    tie.close
+    (tie.spec (λ c κs. search needs) (λ c κs. search needs) (λ c. search needs) (λ c. search needs) (λ c κs. search needs) (λ c. search needs) refusal-requires (λ c. search needs) (λ c κs. search needs) (λ c. search needs) refusal-requires-2 returns (λ c. search needs) array-share-prefix-ws slice-aggregate-write-critical array-share-prefix-x slice-aggregate-write-critical-2 write-critical-requires returns-2 (λ c. search needs) returns-3)

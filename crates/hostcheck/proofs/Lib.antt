@@ -1,0 +1,2 @@
+-- The check's own test.
+mod Laws

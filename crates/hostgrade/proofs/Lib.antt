@@ -1,0 +1,2 @@
+-- What a grading asks of the words that its opening left, and where a broken test of it stands.
+mod Laws

@@ -1,3 +1,0 @@
--- Where refusals stand, and the start of a call.
-mod Positions
-pub mod Laws

@@ -1,0 +1,2 @@
+-- Where a broken test of the call stands.
+mod Laws

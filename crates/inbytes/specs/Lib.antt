@@ -1,0 +1,4 @@
+pub mod Check
+pub mod Form
+pub mod Calls
+pub mod Opened

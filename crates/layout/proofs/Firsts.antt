@@ -1,0 +1,63 @@
+-- Where the graphs and nodes of a card stand: each node in one graph only, and all inside the words. Assumes nothing.
+use Prim.Native.Nat.{ℕ, zero, suc, _+_, _-_, _*_, _<_, _≤_}
+use mathlib.Core.Path.{_≡_, refl, ap}
+use mathlib.Core.List.{List}
+use native.Mathlib.Omega.{arith}
+use native.Mathlib.Nat.{add-zero, add-suc}
+use native.Mathlib.Decide.{ℕ-discrete, decLt}
+use native.Mathlib.Numerals.{add-one}
+use lib.ListN.{length, getD}
+use Rattle.word32.specs.Fields.{nodeCount}
+use Rattle.answers.specs.declared.Counts.{Counts}
+use Rattle.layout.specs.Layout.{first, size, decided, decides}
+use Rattle.layout.specs.Shape.{Shape}
+
+module _ (ws : List ℕ) where
+  pub first-next : (g : ℕ) → first ws (suc g) ≡ first ws g + size ws g
+  unfolding first size
+  first-next g = refl
+
+  -- the same from the header's word, as a loop over the graphs has it
+  pub first-passed : (g n : ℕ) → n ≡ first ws g → n + nodeCount (getD ws (g + 2 * n) 0) ≡ first ws (g + 1)
+  unfolding first
+  first-passed g n e = rw (e, add-one g)
+
+  pub first-more : (g d : ℕ) → first ws g ≤ first ws (g + d)
+  first-more g zero = rw add-zero (omega arith)
+  first-more g (suc d) = rw (add-suc g d) (omega (arith, first-more g d, first-next (g + d)))
+
+  -- the nodes of a graph stand before those of the next ones
+  pub first-above : (g h k : ℕ) → g < h → k < size ws g → first ws g + k < first ws h
+  first-above g h k l i =
+      let e : h ≡ suc g + (h - suc g) = omega arith in
+      rw e (omega (arith, first-next g, first-more (suc g) (h - suc g)))
+
+  pub apart : (g h k i : ℕ) → (h ≡ g → ⊥) → k < size ws g → i < size ws h → first ws g + k ≡ first ws h + i → ⊥
+  apart g h k i n p q e = elim (decLt g h) [
+    | yes l ↦ omega (arith, first-above g h k l p)
+    | no m ↦ omega (arith, first-above h g i (omega arith) q)
+  ]
+
+  pub one-place : (g h k i : ℕ) → k < size ws g → i < size ws h → first ws g + k ≡ first ws h + i → (h ≡ g) × (i ≡ k)
+  one-place g h k i p q e = elim (ℕ-discrete h g) [
+    | yes z ↦ (z, omega (arith, ap (first ws) z))
+    | no n ↦ absurd (apart g h k i n p q e)
+  ]
+
+-- of the graphs that c counts
+module _ {ws : List ℕ} {c : Counts} (s : Shape ws c) where
+  pub first-few : (g : ℕ) → g ≤ c .graphs → first ws g ≤ c .nodes
+  first-few g h =
+      let e : g + (c .graphs - g) ≡ c .graphs = omega arith in
+      rw (e, s .nodes-in) at (first-more ws g (c .graphs - g))
+
+  pub header-inside : (g : ℕ) → g < c .graphs → g + 2 * first ws g < length ws
+  header-inside g h = omega (arith, first-few g (omega arith), s .fits)
+
+  pub node-below : (g k : ℕ) → g < c .graphs → k < size ws g → first ws g + k < c .nodes
+  node-below g k l h = rw (s .nodes-in) at (first-above ws g (c .graphs) k l h)
+
+-- a node's decision is 0 or 1
+pub decides-bit : (ws : List ℕ) (g k r : ℕ) → r < 2 → decides ws g k r < 2
+unfolding decides decided
+decides-bit ws g k r h = h

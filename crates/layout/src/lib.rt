@@ -1,0 +1,162 @@
+// The room of an accepted card's parts: where its nodes stand, what a node reads, decides and takes, and the card's tables, made once.
+ghost use mathlib.Core.Path.{_≡_};
+ghost use Prim.Native.Nat.{ℕ, _+_, _*_, _≤_, _<_};
+ghost use lib.ListN.{length, getD};
+ghost use Rattle.lists.specs.Tables.{over};
+ghost use Rattle.word32.specs.Fields.{readGraph, exitOf};
+ghost use Rattle.layout.specs.Layout.{first, observable, decided};
+ghost use Rattle.layout.specs.Shape.{Shape};
+ghost use Rattle.layout.specs.Tables.{Ready, Walkable, Reach, ReachBelow, Tabled};
+use answers::Counts;
+
+// The tables of a card: the first node of each graph, and the lowest and the highest graph that reads it.
+pub type Tables = [[u32; 1025]; 3];
+
+pub const FIRSTS: usize = 0;
+
+pub const LOWS: usize = 1;
+
+pub const HIGHS: usize = 2;
+
+// A word for each graph, and for each place, of any card.
+pub type Graphs = [u32; 1024];
+
+pub type Places = [u32; 5120];
+
+pub fn graph_table() -> Graphs
+    ensures { λ r. ⌜ 1024 ≡ length r ⌝ }
+{
+    [0u32; 1024]
+}
+
+pub fn place_table() -> Places
+    ensures { λ r. ⌜ 5120 ≡ length r ⌝ }
+{
+    [0u32; 5120]
+}
+
+// Room for the first nodes of any card, and for the number of nodes after them.
+pub fn first_table() -> [u32; 1025]
+    ensures { λ r. ⌜ 1025 ≡ length r ⌝ }
+{
+    [0u32; 1025]
+}
+
+// The first node of each graph of an accepted card, and after the last the number of nodes.
+pub fn first_nodes(card: &[u32], c: Counts, firsts: &mut [u32])
+    requires { ⌜ Shape (now card) c × (c .graphs < length (now firsts)) ⌝ }
+    ensures { λ _. ⌜ now (firsts .exit) ≡ over (c .graphs + 1) (first (now (card .entry))) (now (firsts .entry)) ⌝ }
+{
+    let mut n: usize = 0;
+    let mut g = 0;
+    while g < c.graphs {
+        firsts[g] = n as u32;
+        n += word32::node_count(card[g + 2 * n]);
+        g += 1;
+    }
+    firsts[g] = n as u32;
+}
+
+// The first node of graph g.
+pub fn first_node(firsts: &[u32], g: usize) -> usize
+    requires { ⌜ g < length (now firsts) ⌝ }
+    ensures { λ r. ⌜ r ≡ getD (now (firsts .entry)) g 0 ⌝ }
+{
+    lists::get(firsts, g) as usize
+}
+
+// The graph that node j, of graph g, reads.
+pub fn graph_read(card: &[u32], g: usize, j: usize) -> usize
+    requires { ⌜ g + 1 + 2 * j < length (now card) ⌝ }
+    ensures { λ r. ⌜ r ≡ readGraph (getD (now (card .entry)) (g + 1 + 2 * j) 0) ⌝ }
+{
+    word32::read_graph(lists::get(card, g + 1 + 2 * j))
+}
+
+// The decision of node j, of graph g, where graph r's value stands at base + r. Every walk takes a node's decision from here.
+pub fn decision(card: &[u32], g: usize, j: usize, values: &[u32], base: usize) -> u32
+    requires { ⌜ (g + 1 + 2 * j < length (now card)) × (base + readGraph (getD (now card) (g + 1 + 2 * j) 0) < length (now values)) ⌝ }
+    ensures { λ r. ⌜ r ≡ decided (getD (now (card .entry)) (g + 1 + 2 * j) 0) (getD (now (values .entry)) (base + readGraph (getD (now (card .entry)) (g + 1 + 2 * j) 0)) 0) ⌝ }
+{
+    let w = lists::get(card, g + 1 + 2 * j);
+    lists::get(values, base + word32::read_graph(w))
+}
+
+// The exit of node j, of graph g, at a decision.
+pub fn exit_at(card: &[u32], g: usize, j: usize, decision: u32) -> usize
+    requires { ⌜ g + 2 + 2 * j < length (now card) ⌝ }
+    ensures { λ r. ⌜ r ≡ exitOf (getD (now (card .entry)) (g + 2 + 2 * j) 0) decision ⌝ }
+{
+    let w = lists::get(card, g + 2 + 2 * j);
+    if decision == 0 {
+        return word32::exit0(w);
+    }
+    word32::exit1(w)
+}
+
+// Whether graph h is observable.
+pub fn is_observable(card: &[u32], firsts: &[u32], h: usize) -> bool
+    requires { ⌜ Walkable (now card) (now firsts) h ⌝ }
+    ensures { λ r. ⌜ r ≡ observable (now (card .entry)) h ⌝ }
+{
+    let first = first_node(firsts, h);
+    word32::kind(lists::get(card, h + 2 * first)) == 2
+}
+
+// Node j, of graph h, is noted. Graphs come in rising order: h is the highest reader so far, and the lowest where there was none before.
+fn note_node(card: &[u32], h: usize, j: usize, lows: &mut [u32], highs: &mut [u32])
+    requires { ⌜ (h + 1 + 2 * j < length (now card)) × (h < 1024) × (readGraph (getD (now card) (h + 1 + 2 * j) 0) < length (now lows))
+        × (readGraph (getD (now card) (h + 1 + 2 * j) 0) < length (now highs)) ⌝ }
+    ensures { λ _. ⌜ ((k : ℕ) → j ≡ first (now (card .entry)) h + k → ReachBelow (now (card .entry)) h k (now (lows .entry)) (now (highs .entry))
+        → ReachBelow (now (card .entry)) h (k + 1) (now (lows .exit)) (now (highs .exit))) ⌝ }
+{
+    let read = graph_read(card, h, j);
+    lists::put(highs, read, h as u32);
+    let low = lists::get(lows, read);
+    if low <= h as u32 {
+        return;
+    }
+    lists::put(lows, read, h as u32);
+}
+
+// All nodes of graph h.
+fn note_graph(card: &[u32], firsts: &[u32], h: usize, lows: &mut [u32], highs: &mut [u32])
+    requires { ⌜ Walkable (now card) (now firsts) h × (h < 1024) × (h ≤ length (now lows)) × (h ≤ length (now highs)) × ReachBelow (now card) h 0 (now lows) (now highs) ⌝ }
+    ensures { λ _. ⌜ ReachBelow (now (card .entry)) (h + 1) 0 (now (lows .exit)) (now (highs .exit)) ⌝ }
+{
+    let first = first_node(firsts, h);
+    let next = first_node(firsts, h + 1);
+    let n = next - first;
+    let mut k = 0;
+    while k < n {
+        note_node(card, h, first + k, lows, highs);
+        k += 1;
+    }
+}
+
+// The lowest and the highest graph that reads each graph. Where none does they are the number of graphs, and 0.
+pub fn read_ranges(card: &[u32], c: Counts, firsts: &[u32], lows: &mut [u32], highs: &mut [u32])
+    requires { ⌜ Ready (now card) c (now firsts) × (c .graphs ≤ length (now lows)) × (c .graphs ≤ length (now highs)) ⌝ }
+    ensures { λ _. ⌜ Reach (now (card .entry)) c (now (lows .exit)) (now (highs .exit)) ⌝ }
+{
+    lists::fill(lows, c.graphs, c.graphs as u32);
+    lists::fill(highs, c.graphs, 0);
+    let mut h = 0;
+    while h < c.graphs {
+        note_graph(card, firsts, h, lows, highs);
+        h += 1;
+    }
+}
+
+// The tables of an accepted card.
+pub fn make_tables(card: &[u32], c: Counts) -> Tables
+    requires { ⌜ Shape (now card) c ⌝ }
+    ensures { λ r. ⌜ Tabled (now (card .entry)) c r ⌝ }
+{
+    let mut firsts = first_table();
+    first_nodes(card, c, &mut firsts);
+    let mut lows = first_table();
+    let mut highs = first_table();
+    read_ranges(card, c, &firsts, &mut lows, &mut highs);
+    [firsts, lows, highs]
+}

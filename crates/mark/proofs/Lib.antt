@@ -1,3 +1,0 @@
--- The tests of the calls, and lists that grow.
-
-mod Laws

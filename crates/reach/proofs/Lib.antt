@@ -1,3 +1,0 @@
--- What the proofs of the reach cite.
-
-pub mod Laws

@@ -1,4 +1,0 @@
--- What the layers above use of vectors, and the turns of the check's loop.
-
-pub mod Laws
-pub mod Turns

@@ -1,0 +1,4 @@
+-- The laws that proofs of functions and of other laws cite, each stated once.
+pub mod Fields
+pub mod Bytes
+pub mod Parts

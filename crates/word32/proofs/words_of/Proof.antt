@@ -1,0 +1,36 @@
+-- `word32::words_of` meets its contract. The invariant: the first i words are those of the bytes, and the others as they were. Assumes nothing.
+use mathlib.Core.Path.{_≡_, refl, sym}
+use Prim.Native.Nat.{_≤_, _-_, _/_}
+use borrow.Author.Needs.{needs}
+use native.Mathlib.Omega.{arith}
+use lib.ListN.{length, length-set}
+use Rattle.lists.specs.Tables.{over}
+use Rattle.lists.proofs.Tables.{over-none, over-store}
+use Rattle.word32.specs.Bytes.{wordAt}
+use Rattle.word32.proofs.words_of.Statement.{statement}
+use Rattle.word32.proofs.words_of.Tie as tie
+
+abbrev Inv-loop : tie.InvT-loop
+Inv-loop b out₀ n i₀ out i = (i ≤ n) × (length out ≡ length out₀) × (out ≡ over i (wordAt b) out₀)
+
+abbrev μ-loop : tie.MeasureT-loop
+μ-loop b out₀ n i₀ out i = n - i
+
+loop-holds : tie.Need-loop-holds Inv-loop μ-loop
+loop-holds c = (omega arith, refl, sym (over-none _ _))
+
+loop-again : tie.Need-loop-again Inv-loop μ-loop
+loop-again c =
+    let l = c .before .before .loop in
+    (omega arith, simp length-set (l .inv .1), rw (l .inv .2) (over-store _ _ (l .i) _ (omega arith) (c .word-at .ensures)))
+
+returns : tie.Need-returns Inv-loop μ-loop
+returns c =
+    let l = c .before .loop in
+    let e : l .i ≡ length (c .before .before .before .before .args .b .now) / 4 = omega arith in
+    (refl, rw e at (l .inv .2))
+
+pub words-of-spec : {M : Type 1} → statement M
+words-of-spec =
+    tie.close
+    (tie.spec Inv-loop μ-loop loop-holds (λ c κs. search needs) (λ c. search needs) (λ c. search needs) (λ c. search needs) (λ c. search needs) loop-again (λ c. search needs) returns)

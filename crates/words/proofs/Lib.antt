@@ -1,3 +1,0 @@
--- The laws that proofs of functions and of other laws cite, each stated once.
-pub mod Fields
-pub mod Bytes
