@@ -134,13 +134,6 @@ fn finish(card: &[u32], extra: usize, c: Counts) -> Answer
     Answer::Accepted(c)
 }
 
-// A table with room for the nodes of any graph.
-fn node_table() -> [u32; 4096]
-    ensures { λ r. ⌜ 4096 ≡ length r ⌝ }
-{
-    [0u32; 4096]
-}
-
 // The check of a card whose words are followed by so many bytes that make no word.
 pub fn check_with(card: &[u32], extra: usize) -> Answer
     ensures { λ r. ⌜ r ≡ checkedWith (now (card .entry)) extra ⌝ }
@@ -148,7 +141,7 @@ pub fn check_with(card: &[u32], extra: usize) -> Answer
     if 9216 < card.len() {
         return Answer::Refused(Rule::CardTooLong, 0);
     }
-    let mut table = node_table();
+    let mut table = layout::node_table();
     let mut c = Counts {
         inputs: 0,
         graphs: 0,

@@ -8,9 +8,7 @@ use Rattle.answers.specs.Calls.{callTests, replied, written}
 use Rattle.testvectors.specs.Vectors.{vectorVerdict}
 use Rattle.detect.specs.Detects.{changes, criticalAt}
 use Rattle.changes.specs.Calls.{changeTests, criticalTests}
-use Rattle.inbytes.specs.Check.{hostCheck}
-use Rattle.inbytes.specs.Form.{hostForm}
-use Rattle.inbytes.specs.Calls.{hostAnswer, asBytes, room}
+use Rattle.inbytes.specs.Calls.{hostCheck, hostForm, hostAnswer, asBytes, room}
 
 -- THE CHANGE LIST of graph g: its length c, and its numbers in the first c words
 abbrev pub changeAnswer : List ℕ → List ℕ → ℕ → List ℕ → ℕ

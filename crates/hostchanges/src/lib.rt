@@ -19,7 +19,7 @@ fn write_changes(ws: &[u32], c: Counts, x: &[u32], g: usize, list: &mut [u8]) ->
     ensures { λ r. ⌜ (r ≡ count (changes (now (ws .entry)) c (now (x .entry)) g) (c .graphs))
         × (now (list .exit) ≡ asBytes (chosen (changes (now (ws .entry)) c (now (x .entry)) g) (c .graphs)) (now (list .entry))) ⌝ }
 {
-    let mut out = inbytes::graph_room();
+    let mut out = layout::graph_table();
     let n = changes::work_out_changes(ws, c, x, g, &mut out);
     word32::bytes_of(&out[..n], list);
     n
@@ -30,7 +30,7 @@ pub fn change_list(card: &[u8], vector: &[u8], graph: u32, list: &mut [u8]) -> u
     ensures { λ r. ⌜ (r ≡ changeAnswer (now (card .entry)) (now (vector .entry)) graph (now (list .entry)))
         × (now (list .exit) ≡ changeBytes (now (card .entry)) (now (vector .entry)) graph (now (list .entry))) ⌝ }
 {
-    let mut ws = inbytes::card_room();
+    let mut ws = layout::card_table();
     let mut x = inbytes::vector_room();
     match inbytes::open_vector(card, vector, &mut ws, &mut x) {
         Answer::Refused(rule, position) => inbytes::refusal(rule, position),
@@ -59,7 +59,7 @@ fn write_critical(ws: &[u32], c: Counts, x: &[u32], nodes: &mut [u8])
     requires { ⌜ Shape (now ws) c × (width (c .inputs) ≤ length (now x)) × (c .nodes ≤ room (now nodes)) ⌝ }
     ensures { λ _. ⌜ now (nodes .exit) ≡ asBytes (tab (λ j. choose (criticalAt (now (ws .entry)) c (now (x .entry)) j) 1 0) (c .nodes)) (now (nodes .entry)) ⌝ }
 {
-    let mut out = inbytes::node_room();
+    let mut out = layout::node_table();
     changes::work_out_critical(ws, c, x, &mut out);
     word32::bytes_of(&out[..c.nodes], nodes)
 }
@@ -69,7 +69,7 @@ pub fn critical_nodes(card: &[u8], vector: &[u8], nodes: &mut [u8]) -> u64
     ensures { λ r. ⌜ (r ≡ criticalAnswer (now (card .entry)) (now (vector .entry)) (now (nodes .entry)))
         × (now (nodes .exit) ≡ criticalBytes (now (card .entry)) (now (vector .entry)) (now (nodes .entry))) ⌝ }
 {
-    let mut ws = inbytes::card_room();
+    let mut ws = layout::card_table();
     let mut x = inbytes::vector_room();
     match inbytes::open_vector(card, vector, &mut ws, &mut x) {
         Answer::Refused(rule, position) => inbytes::refusal(rule, position),

@@ -7,8 +7,7 @@ use Rattle.answers.specs.declared.Rule.the-variants.{BufferTooShort}
 use Rattle.answers.specs.Answers.{valuesOf}
 use Rattle.answers.specs.Tests.{Test, test, firstBroken}
 use Rattle.answers.specs.Calls.{replied, written}
-use Rattle.inbytes.specs.Check.{hostCheck}
-use Rattle.inbytes.specs.Calls.{hostAnswer, asBytes, room}
+use Rattle.inbytes.specs.Calls.{hostCheck, hostAnswer, asBytes, room}
 
 -- the own tests of a check: a buffer of at least five words
 unfoldable pub checkTests : ℕ → List Test

@@ -39,7 +39,7 @@ pub fn check(card: &[u8], numbers: &mut [u8]) -> u64
     ensures { λ r. ⌜ (r ≡ checkAnswer (now (card .entry)) (now (numbers .entry)))
         × (now (numbers .exit) ≡ checkBytes (now (card .entry)) (now (numbers .entry))) ⌝ }
 {
-    let mut ws = inbytes::card_room();
+    let mut ws = layout::card_table();
     match inbytes::check_card(card, &mut ws) {
         Answer::Refused(rule, position) => inbytes::refusal(rule, position),
         Answer::Accepted(c) => {

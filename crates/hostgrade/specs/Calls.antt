@@ -7,9 +7,7 @@ use Rattle.answers.specs.Calls.{callTests, replied, written}
 use Rattle.testvectors.specs.Vectors.{listVerdict}
 use Rattle.detect.specs.Grading.{mark, tally, marked}
 use Rattle.grade.specs.Calls.{gradeTests}
-use Rattle.inbytes.specs.Check.{hostCheck}
-use Rattle.inbytes.specs.Form.{hostForm}
-use Rattle.inbytes.specs.Calls.{hostAnswer, asBytes, room}
+use Rattle.inbytes.specs.Calls.{hostCheck, hostForm, hostAnswer, asBytes, room}
 
 -- GRADINGS by a list of vectors: the marked count, and a word for each fault
 abbrev pub gradeAnswer : List ℕ → List ℕ → List ℕ → ℕ

@@ -8,9 +8,7 @@ use Rattle.answers.specs.Calls.{callTests, written}
 use Rattle.testvectors.specs.Vectors.{listVerdict}
 use Rattle.grade.specs.Calls.{gradeTests}
 use Rattle.grade.specs.Graded.{graded}
-use Rattle.inbytes.specs.Check.{hostCheck}
-use Rattle.inbytes.specs.Form.{hostForm}
-use Rattle.inbytes.specs.Calls.{asBytes, room}
+use Rattle.inbytes.specs.Calls.{hostCheck, hostForm, asBytes, room}
 
 -- the bytes after either grading, by whether a fault is dropped once marked
 abbrev pub gradeBytes : Bool → List ℕ → List ℕ → List ℕ → List ℕ

@@ -18,7 +18,7 @@ fn write_grading(drops: bool, ws: &[u32], c: Counts, list: &[u8], marks: &mut [u
     ensures { λ r. ⌜ (r ≡ marked (now (ws .entry)) c (wordsOf (now (list .entry))))
         × (now (marks .exit) ≡ asBytes (tab (graded drops (now (ws .entry)) c (wordsOf (now (list .entry)))) (c .faults)) (now (marks .entry))) ⌝ }
 {
-    let mut out = inbytes::fault_room();
+    let mut out = layout::fault_table();
     let n = hostlist::grade_list(drops, ws, c, list, &mut out);
     word32::bytes_of(&out[..c.faults], marks);
     n
@@ -29,7 +29,7 @@ fn grading(drops: bool, card: &[u8], list: &[u8], marks: &mut [u8]) -> u64
     ensures { λ r. ⌜ (r ≡ gradeAnswer (now (card .entry)) (now (list .entry)) (now (marks .entry)))
         × (now (marks .exit) ≡ gradeBytes drops (now (card .entry)) (now (list .entry)) (now (marks .entry))) ⌝ }
 {
-    let mut ws = inbytes::card_room();
+    let mut ws = layout::card_table();
     match inbytes::open_list(card, list, &mut ws) {
         Answer::Refused(rule, position) => inbytes::refusal(rule, position),
         Answer::Accepted(c) => {

@@ -8,9 +8,7 @@ use Rattle.testvectors.specs.Vectors.{vectorVerdict}
 use Rattle.value.specs.Settings.{faulty}
 use Rattle.value.specs.Values.{value}
 use Rattle.plain.specs.Calls.{valuesTests}
-use Rattle.inbytes.specs.Check.{hostCheck}
-use Rattle.inbytes.specs.Form.{hostForm}
-use Rattle.inbytes.specs.Calls.{hostAnswer, asBytes, room}
+use Rattle.inbytes.specs.Calls.{hostCheck, hostForm, hostAnswer, asBytes, room}
 
 -- VALUES with a list of faults in, no fault or one: a word for each graph
 abbrev pub valuesAnswer : List ℕ → List ℕ → List ℕ → List ℕ → ℕ

@@ -19,7 +19,7 @@ fn write_values(ws: &[u32], c: Counts, x: &[u32], faults: &[u32], values: &mut [
     requires { ⌜ Shape (now ws) c × (width (c .inputs) ≤ length (now x)) × (c .graphs ≤ room (now values)) ⌝ }
     ensures { λ _. ⌜ now (values .exit) ≡ asBytes (tab (value (now (ws .entry)) c (faulty (now (faults .entry))) (now (x .entry))) (c .graphs)) (now (values .entry)) ⌝ }
 {
-    let mut out = inbytes::graph_room();
+    let mut out = layout::graph_table();
     plain::work_out(ws, c, x, faults, &mut out);
     word32::bytes_of(&out[..c.graphs], values)
 }
@@ -29,7 +29,7 @@ fn values_with(card: &[u8], vector: &[u8], faults: &[u32], values: &mut [u8]) ->
     ensures { λ r. ⌜ (r ≡ valuesAnswer (now (card .entry)) (now (vector .entry)) (now (faults .entry)) (now (values .entry)))
         × (now (values .exit) ≡ valuesBytes (now (card .entry)) (now (vector .entry)) (now (faults .entry)) (now (values .entry))) ⌝ }
 {
-    let mut ws = inbytes::card_room();
+    let mut ws = layout::card_table();
     let mut x = inbytes::vector_room();
     match inbytes::open_vector(card, vector, &mut ws, &mut x) {
         Answer::Refused(rule, position) => inbytes::refusal(rule, position),

@@ -8,7 +8,7 @@ use Rattle.word32.specs.Bytes.{wordsOf}
 use Rattle.answers.specs.declared.Rule.the-variants.{VectorForm}
 use Rattle.answers.specs.declared.Verdict.{Verdict}
 use Rattle.answers.specs.declared.Verdict.the-variants.{Broken}
-use Rattle.inbytes.specs.Form.{hostForm}
+use Rattle.inbytes.specs.Calls.{hostForm}
 
 module _ (verdict : ℕ → List ℕ → Verdict) (m : ℕ) (v : List ℕ) where
   pub form-leftover : 0 < length v % 4 → Broken VectorForm 0 ≡ hostForm verdict m v

@@ -25,8 +25,7 @@ use Rattle.answers.proofs.Calls.{opened-accepted}
 use Rattle.answers.proofs.Tests.{then-sound}
 use Rattle.testvectors.specs.Vectors.{width, vectorVerdict, listVerdict}
 use Rattle.testvectors.proofs.Laws.{vector-long}
-use Rattle.inbytes.specs.Check.{hostCheck}
-use Rattle.inbytes.specs.Form.{leftover, hostForm}
+use Rattle.inbytes.specs.Calls.{hostCheck, leftover, hostForm}
 use Rattle.inbytes.specs.Opened.{hostOpened, WordsIn}
 use Rattle.inbytes.proofs.Form.{form-whole}
 use Rattle.inbytes.proofs.Positions.{Low, LowAnswer, LowTests, tests-low, then-low, onward-low, check-low, vector-low, list-low}

@@ -11,7 +11,7 @@ use Rattle.answers.specs.declared.Verdict.the-variants.{Sound, Broken}
 use Rattle.answers.specs.Tests.{firstBroken}
 use Rattle.testvectors.specs.Vectors.{width, wordVerdict, wordsVerdict, listTests, listVerdict}
 use Rattle.testvectors.proofs.Laws.{list-stops, list-goes}
-use Rattle.inbytes.specs.Form.{hostForm}
+use Rattle.inbytes.specs.Calls.{hostForm}
 use Rattle.inbytes.proofs.Form.{form-whole}
 
 -- the form of a list of whole words: their number is wrong, or the words tell

@@ -1,4 +1,2 @@
-pub mod Check
-pub mod Form
 pub mod Calls
 pub mod Opened

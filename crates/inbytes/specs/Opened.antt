@@ -11,8 +11,7 @@ use Rattle.answers.specs.declared.Answer.{Answer}
 use Rattle.answers.specs.declared.Answer.the-variants.{Accepted, Refused}
 use Rattle.answers.specs.Calls.{opened}
 use Rattle.testvectors.specs.Vectors.{vectorVerdict, listVerdict}
-use Rattle.inbytes.specs.Check.{hostCheck}
-use Rattle.inbytes.specs.Form.{hostForm}
+use Rattle.inbytes.specs.Calls.{hostCheck, hostForm}
 
 -- the card's check, and then the form of the vectors, as one or as a list
 abbrev pub hostOpened : (ℕ → List ℕ → Verdict) → List ℕ → List ℕ → Answer

@@ -6,44 +6,17 @@ ghost use Rattle.word32.specs.Bytes.{wordsOf};
 ghost use Rattle.answers.specs.declared.Verdict.the-variants.{Sound};
 ghost use Rattle.answers.specs.declared.Reply.the-variants as reply;
 ghost use Rattle.testvectors.specs.Vectors.{wordsVerdict, vectorVerdict, listVerdict};
-ghost use Rattle.inbytes.specs.Check.{hostCheck};
-ghost use Rattle.inbytes.specs.Form.{hostForm};
-ghost use Rattle.inbytes.specs.Calls.{hostAnswer};
+ghost use Rattle.inbytes.specs.Calls.{hostCheck, hostForm, hostAnswer};
 ghost use Rattle.inbytes.specs.Opened.{WordsIn, OpenedVector, OpenedList};
 use answers::Answer;
 use answers::Rule;
 use answers::Verdict;
 
-// Room for the words of any card, and of any vector.
-pub fn card_room() -> [u32; 9216]
-    ensures { λ r. ⌜ 9216 ≡ length r ⌝ }
-{
-    [0u32; 9216]
-}
-
+// Room for the words of any vector.
 pub fn vector_room() -> [u32; 64]
     ensures { λ r. ⌜ 64 ≡ length r ⌝ }
 {
     [0u32; 64]
-}
-
-// Room for a word a graph, a node and a fault of any card.
-pub fn graph_room() -> [u32; 1024]
-    ensures { λ r. ⌜ 1024 ≡ length r ⌝ }
-{
-    [0u32; 1024]
-}
-
-pub fn node_room() -> [u32; 4096]
-    ensures { λ r. ⌜ 4096 ≡ length r ⌝ }
-{
-    [0u32; 4096]
-}
-
-pub fn fault_room() -> [u32; 10240]
-    ensures { λ r. ⌜ 10240 ≡ length r ⌝ }
-{
-    [0u32; 10240]
 }
 
 // The one number for a refusal.

@@ -23,16 +23,35 @@ pub type Graphs = [u32; 1024];
 
 pub type Places = [u32; 5120];
 
+// Room for the words of any card; and for a word for each of its graphs, nodes, places and faults.
+pub fn card_table() -> [u32; 9216]
+    ensures { λ r. ⌜ 9216 ≡ length r ⌝ }
+{
+    [0u32; 9216]
+}
+
 pub fn graph_table() -> Graphs
     ensures { λ r. ⌜ 1024 ≡ length r ⌝ }
 {
     [0u32; 1024]
 }
 
+pub fn node_table() -> [u32; 4096]
+    ensures { λ r. ⌜ 4096 ≡ length r ⌝ }
+{
+    [0u32; 4096]
+}
+
 pub fn place_table() -> Places
     ensures { λ r. ⌜ 5120 ≡ length r ⌝ }
 {
     [0u32; 5120]
+}
+
+pub fn fault_table() -> [u32; 10240]
+    ensures { λ r. ⌜ 10240 ≡ length r ⌝ }
+{
+    [0u32; 10240]
 }
 
 // Room for the first nodes of any card, and for the number of nodes after them.

@@ -154,23 +154,16 @@ fn put_grading(out: &mut [u8], c: Counts, marks: &[u32], tallies: &[u32], marked
     put_line(out, after_faults, b"grade", marked, c.faults)
 }
 
-// Room for the faults of any card.
-fn fault_room() -> [u32; 10240]
-    ensures { λ r. ⌜ 10240 ≡ length r ⌝ }
-{
-    [0u32; 10240]
-}
-
 // The text for an accepted card and vector words.
 fn report_accepted(card: &[u32], c: Counts, vectors: &[u32], out: &mut [u8]) -> usize
     requires { ⌜ (checked (now card) ≡ Accepted c) × (286880 ≤ length (now out)) ⌝ }
     ensures { λ r. ⌜ Puts (now (out .entry)) 0 (gradedText (now (card .entry)) (now (vectors .entry))) r (now (out .exit)) ⌝ }
 {
-    let mut marks = fault_room();
+    let mut marks = layout::fault_table();
     match grade::first_marking(card, vectors, &mut marks) {
         Reply::Refused(rule, position) => put_refused(out, answers::rule_number(rule), position),
         Reply::Done(marked) => {
-            let mut tallies = fault_room();
+            let mut tallies = layout::fault_table();
             grade::tally(card, vectors, &mut tallies);
             put_grading(out, c, &marks, &tallies, marked)
         }
@@ -188,13 +181,7 @@ fn report_words(card: &[u32], vectors: &[u32], out: &mut [u8]) -> usize
     }
 }
 
-// Room for the words of any card, and for as many vector words as are taken.
-fn card_room() -> [u32; 9216]
-    ensures { λ r. ⌜ 9216 ≡ length r ⌝ }
-{
-    [0u32; 9216]
-}
-
+// Room for as many vector words as are taken.
 fn vector_room() -> [u32; 16384]
     ensures { λ r. ⌜ 16384 ≡ length r ⌝ }
 {
@@ -206,7 +193,7 @@ fn report_parts(card: &[u8], vectors: &[u8], out: &mut [u8]) -> usize
     requires { ⌜ (length (now card) / 4 ≤ 9216) × (length (now vectors) / 4 ≤ 16384) × (286880 ≤ length (now out)) ⌝ }
     ensures { λ r. ⌜ Puts (now (out .entry)) 0 (gradedText (wordsOf (now (card .entry))) (wordsOf (now (vectors .entry)))) r (now (out .exit)) ⌝ }
 {
-    let mut card_words = card_room();
+    let mut card_words = layout::card_table();
     let n = word32::words_of(card, &mut card_words);
     let mut vector_words = vector_room();
     let v = word32::words_of(vectors, &mut vector_words);

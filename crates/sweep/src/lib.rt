@@ -5,7 +5,7 @@ ghost use Prim.Native.Nat.{ℕ, _+_, _-_, _≤_, _<_};
 ghost use lib.ListN.{length, getD};
 ghost use Rattle.layout.specs.Layout.{size};
 ghost use Rattle.layout.specs.Tables.{Ready};
-ghost use Rattle.testvectors.specs.Vectors.{Wide};
+ghost use Rattle.testvectors.specs.Parts.{Wide};
 ghost use Rattle.value.specs.Values.{follow};
 ghost use Rattle.sweep.specs.Swept.{Swept, Partly};
 use answers::Counts;

@@ -14,7 +14,8 @@ use Rattle.answers.specs.declared.Rule.the-variants.{VectorForm}
 use Rattle.answers.specs.declared.Rule.{Rule}
 use Rattle.answers.specs.declared.Verdict.the-variants.{Sound, Broken}
 use Rattle.answers.proofs.Tests.{then-sound, all-passed}
-use Rattle.testvectors.specs.Vectors.{width, bit, Wide, wordsVerdict, vectorVerdict, listTests, listVerdict, vectors, vector}
+use Rattle.testvectors.specs.Vectors.{width, bit, wordsVerdict, vectorVerdict, listTests, listVerdict, vectors, vector}
+use Rattle.testvectors.specs.Parts.{Wide}
 
 -- an input's value is 0 or 1
 pub bit-value : (x : List ℕ) (i : ℕ) → bit x i < 2

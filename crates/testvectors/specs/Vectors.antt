@@ -1,6 +1,6 @@
 -- The form of vectors and of lists of them: document 01, 'The card's words', and refusal 10. Assumes nothing.
 -- `width`, `bit` and `carried` say how inputs stand in words; nothing outside this crate opens them.
-use Prim.Native.Nat.{ℕ, zero, suc, _+_, _-_, _*_, _/_, _%_, _^_, _<_, min}
+use Prim.Native.Nat.{ℕ, zero, suc, _+_, _-_, _*_, _/_, _%_, _^_, min}
 use mathlib.Core.List.{List, [], _∷_}
 use mathlib.Core.Bool.{not}
 use lib.ListN.{length, getD, take, drop}
@@ -18,13 +18,6 @@ width m = (m + 15) / 16
 -- the value of input i: bit i % 16 of word i / 16
 unfoldable pub bit : List ℕ → ℕ → ℕ
 bit x i = getD x (i / 16) 0 / 2 ^ (i % 16) % 2
-
--- the words x have a bit for input i, and for each of m inputs
-pub record HasBit (x : List ℕ) (i : ℕ) : Type 0 where
-  pub inside : i / 16 < length x
-
-pub record Wide (m : ℕ) (x : List ℕ) : Type 0 where
-  pub bits : (i : ℕ) → i < m → HasBit x i
 
 -- how many inputs word j of a vector carries, from its bit 0 on
 unfoldable pub carried : ℕ → ℕ → ℕ

@@ -3,7 +3,8 @@ ghost use mathlib.Core.Path.{_≡_};
 ghost use Prim.Native.Nat.{_+_, _*_, _<_, _≤_};
 ghost use lib.ListN.{length};
 ghost use Rattle.answers.specs.Tests.{firstBroken};
-ghost use Rattle.testvectors.specs.Vectors.{width, bit, HasBit, carried, wordVerdict, wordsVerdict, vectorVerdict, listTests, listVerdict, vectors, vector};
+ghost use Rattle.testvectors.specs.Vectors.{width, bit, carried, wordVerdict, wordsVerdict, vectorVerdict, listTests, listVerdict, vectors, vector};
+ghost use Rattle.testvectors.specs.Parts.{HasBit};
 use answers::Rule;
 use answers::Verdict;
 

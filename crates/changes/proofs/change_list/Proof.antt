@@ -35,7 +35,7 @@ returns-3 c =
     let d = call-done _ _ (changeTests _ _) _ _ _ (sym (at-c .before .before .open-vector .ensures) ∙ at-c .c .given .1)
     (sym (at-tests .test-change .ensures) ∙ at-sound .enum-told .given .1) in
     let o = at-work .work-out-changes .ensures in
-    (rw (o .0) (d .0), o .1 ∙ d .1)
+    (rw (o .0) (d .0), rw (o .1) (d .1))
 
 pub change-list-spec : {M : Type 1} → statement M
 change-list-spec =

@@ -33,7 +33,7 @@ returns-3 c =
     let at-c = at-tests .before .before in
     let d = call-done _ _ (criticalTests _) _ _ _ (sym (at-c .before .before .open-vector .ensures) ∙ at-c .c .given .1)
     (sym (at-tests .test-critical .ensures) ∙ at-sound .enum-told .given .1) in
-    (d .0, at-work .work-out-critical .ensures ∙ d .1)
+    (d .0, rw (at-work .work-out-critical .ensures) (d .1))
 
 pub critical-nodes-spec : {M : Type 1} → statement M
 critical-nodes-spec =

@@ -74,8 +74,8 @@ returns c =
     let good = restored _ (at-sweep .sweep .ensures) (omega (arith, few, at-graph-table .graph-table .ensures)) (at-restore .restore .ensures) in
     let flips = at-change .change .ensures _ good in
     let o = at-list-changes .list-changes .ensures in (
-      o .0 ∙ count-same _ _ _ (λ h l. listed-is _ (at-sweep .sweep .ensures) flips h l ∙ sym (changes-told (start .pre .0) _ _ h (start .pre .2) l)),
-      o .1 ∙ ap (λ (r : List ℕ). front r (start .args .list .now)) (chosen-same _ _ _ (λ h l. listed-is _ (at-sweep .sweep .ensures) flips h l ∙ sym (changes-told (start .pre .0) _ _ h (start .pre .2) l))),
+      rw (o .0) (count-same _ _ _ (λ h l. listed-is _ (at-sweep .sweep .ensures) flips h l ∙ sym (changes-told (start .pre .0) _ _ h (start .pre .2) l))),
+      rw (o .1) (ap (λ (r : List ℕ). front r (start .args .list .now)) (chosen-same _ _ _ (λ h l. listed-is _ (at-sweep .sweep .ensures) flips h l ∙ sym (changes-told (start .pre .0) _ _ h (start .pre .2) l)))),
     )
 
 pub work-out-changes-spec : {M : Type 1} → statement M

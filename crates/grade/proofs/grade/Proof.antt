@@ -34,7 +34,7 @@ returns-3 c =
     let d = call-done _ _ (gradeTests _) _ _ _ (sym (at-c .before .before .open-list .ensures) ∙ at-c .c .given .1)
     (sym (at-tests .test-grade .ensures) ∙ at-sound .enum-told .given .1) in
     let o = at-work .grade-list .ensures in
-    (rw (o .0) (d .0), o .1 ∙ d .1)
+    (rw (o .0) (d .0), rw (o .1) (d .1))
 
 pub grade-spec : {M : Type 1} → statement M
 grade-spec =

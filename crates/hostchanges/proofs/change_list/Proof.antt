@@ -72,7 +72,7 @@ returns-3 c =
     let a = at-c .c .given .1 in
     let d = call-done _ _ (changeTests _ _) _ _ _ (sym (o .told) ∙ a) (sym (at-tests .test-change .ensures) ∙ at-sound .enum-told .given .1) in
     let w = rw (o .card-in _ a .front, o .vector-in _ a .front) at (at-work .write-changes .ensures) in
-    (w .0 ∙ ap hostAnswer (d .0), w .1 ∙ d .1)
+    (rw (w .0) (ap hostAnswer (d .0)), rw (w .1) (d .1))
 
 pub change-list-spec : {M : Type 1} → statement M
 change-list-spec =

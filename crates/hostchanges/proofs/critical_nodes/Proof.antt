@@ -72,7 +72,7 @@ returns-3 c =
     let a = at-c .c .given .1 in
     let d = call-done _ _ (criticalTests _) _ _ _ (sym (o .told) ∙ a) (sym (at-tests .test-critical .ensures) ∙ at-sound .enum-told .given .1) in
     let w = rw (o .card-in _ a .front, o .vector-in _ a .front) at (at-work .write-critical .ensures) in
-    (ap hostAnswer (d .0), w ∙ d .1)
+    (ap hostAnswer (d .0), rw w (d .1))
 
 pub critical-nodes-spec : {M : Type 1} → statement M
 critical-nodes-spec =

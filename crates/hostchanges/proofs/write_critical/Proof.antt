@@ -11,14 +11,14 @@ slice-aggregate-bytes-of : tie.Need-slice-aggregate-bytes-of
 slice-aggregate-bytes-of c =
     let at-work = c .before .before in
     let at-room = at-work .before .before in
-    sym (length-take-le _ _ (omega (arith, at-room .before .before .before .before .pre .0 .few-nodes, at-room .node-room .ensures, at-work .work-out-critical .kept .1 .1 .1 .0)))
+    sym (length-take-le _ _ (omega (arith, at-room .before .before .before .before .pre .0 .few-nodes, at-room .node-table .ensures, at-work .work-out-critical .kept .1 .1 .1 .0)))
 
 bytes-of-requires : tie.Need-bytes-of-requires
 bytes-of-requires c κs =
     let at-work = c .before .before .before in
     let at-room = at-work .before .before in
     let s = at-room .before .before .before .before in
-    let e = length-take-le (s .args .c .nodes) (at-work .work-out-critical .last .1 .1 .1 .0) (omega (arith, s .pre .0 .few-nodes, at-room .node-room .ensures, at-work .work-out-critical .kept .1 .1 .1 .0)) in
+    let e = length-take-le (s .args .c .nodes) (at-work .work-out-critical .last .1 .1 .1 .0) (omega (arith, s .pre .0 .few-nodes, at-room .node-table .ensures, at-work .work-out-critical .kept .1 .1 .1 .0)) in
     omega (arith, e, s .pre .2)
 
 returns : tie.Need-returns

@@ -72,7 +72,7 @@ returns-3 c =
     let a = at-c .c .given .1 in
     let d = call-done _ _ (valuesTests _ _) _ _ _ (sym (o .told) ∙ a) (sym (at-tests .test-values .ensures) ∙ at-sound .enum-told .given .1) in
     let w = rw (o .card-in _ a .front, o .vector-in _ a .front) at (at-work .write-values .ensures) in
-    (ap hostAnswer (d .0), w ∙ d .1)
+    (ap hostAnswer (d .0), rw w (d .1))
 
 pub values-with-spec : {M : Type 1} → statement M
 values-with-spec =

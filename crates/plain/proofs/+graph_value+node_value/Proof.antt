@@ -7,6 +7,7 @@ use borrow.Author.Needs.{needs}
 use Rattle.layout.specs.Layout.{size}
 use Rattle.layout.proofs.Places.{walkable, few-nodes, some-node, node-inside, read-below, place-below}
 use Rattle.value.specs.Settings.{faulty}
+use Rattle.value.specs.Run.{run}
 use Rattle.value.proofs.Run.{node-ends, node-goes}
 use Rattle.plain.proofs.Laws.{node-known, node-saved, decision-found, graph-known, graph-saved, input-value, output-value}
 use borrow.Fn.Kinds.{In}
@@ -137,7 +138,9 @@ pub +graph-value+node-value-spec : {M : Type 1} → statement M
     let start = at-struct-known .before .before .before .before .before .before in
     let p = start .pre .1 in
     let f = at-node-value .node-value .ensures in
-    graph-saved _ (p .0) (p .2) (f .saved) (output-value _ (p .0) (p .2) (at-if2 .if2 .left) (f .right) (at-set-at2 .set-at2 .ensures)) (at-put2 .put2 .ensures)))
+    let a = start .args in
+    let t = run (a .card .now) (a .c) (a .faults .now) (a .vector .now) in
+    graph-saved t (p .0) (p .2) (f .saved) (output-value t (p .0) (p .2) (at-if2 .if2 .left) (f .right) (at-set-at2 .set-at2 .ensures)) (at-put2 .put2 .ensures)))
     λ t. node-value-lts.spec (
       first-node-reads.Asked,
       first-node-reads.Learnt,
@@ -239,8 +242,10 @@ pub +graph-value+node-value-spec : {M : Type 1} → statement M
     let p = start .pre .1 in
     let f = at-first-node .first-node .ensures in
     let v = at-graph-value .graph-value .ensures in
-    let d = decision-found _ (p .0) (p .2) (p .3) f (at-graph-read .graph-read .ensures) v (at-decision .decision .ensures) in
-    node-saved _ (p .0) (p .2) (p .3) f (v .saved) (node-ends (p .0) (p .2) (p .3) f (faulty _) _ d (at-exit-taken .exit-taken .ensures) (at-if2 .if2 .taken)) (at-put .put .ensures))
+    let a = start .args in
+    let t = run (a .card .now) (a .c) (a .faults .now) (a .vector .now) in
+    let d = decision-found t (p .0) (p .2) (p .3) f (at-graph-read .graph-read .ensures) v (at-decision .decision .ensures) in
+    node-saved t (p .0) (p .2) (p .3) f (v .saved) (node-ends (p .0) (p .2) (p .3) f (faulty (a .faults .now)) (a .vector .now) d (at-exit-taken .exit-taken .ensures) (at-if2 .if2 .taken)) (at-put .put .ensures))
     -- node-value-node-value-requires
     (λ c κs.
     let at-if2 = c .before in
@@ -253,8 +258,10 @@ pub +graph-value+node-value-spec : {M : Type 1} → statement M
     let p = start .pre .1 in
     let f = at-first-node .first-node .ensures in
     let v = at-graph-value .graph-value .ensures in
-    let d = decision-found _ (p .0) (p .2) (p .3) f (at-graph-read .graph-read .ensures) v (at-decision .decision .ensures) in
-    let n = node-goes (p .0) (p .2) (p .3) f (faulty _) _ d (at-exit-taken .exit-taken .ensures) (at-if2 .if2 .left) in
+    let a = start .args in
+    let t = run (a .card .now) (a .c) (a .faults .now) (a .vector .now) in
+    let d = decision-found t (p .0) (p .2) (p .3) f (at-graph-read .graph-read .ensures) v (at-decision .decision .ensures) in
+    let n = node-goes (p .0) (p .2) (p .3) f (faulty (a .faults .now)) (a .vector .now) d (at-exit-taken .exit-taken .ensures) (at-if2 .if2 .left) in
     (omega (arith, start .pre .0, n .0, n .1, p .3), (p .0, p .1, p .2, n .1, v .saved)))
     -- node-value-put-requires-2
     (λ c κs.
@@ -281,6 +288,8 @@ pub +graph-value+node-value-spec : {M : Type 1} → statement M
     let f = at-first-node .first-node .ensures in
     let v = at-graph-value .graph-value .ensures in
     let w = at-node-value .node-value .ensures in
-    let d = decision-found _ (p .0) (p .2) (p .3) f (at-graph-read .graph-read .ensures) v (at-decision .decision .ensures) in
-    let n = node-goes (p .0) (p .2) (p .3) f (faulty _) _ d (at-exit-taken .exit-taken .ensures) (at-if2 .if2 .left) in
-    node-saved _ (p .0) (p .2) (p .3) f (w .saved) (w .right ∙ sym (n .2)) (at-put2 .put2 .ensures))
+    let a = start .args in
+    let t = run (a .card .now) (a .c) (a .faults .now) (a .vector .now) in
+    let d = decision-found t (p .0) (p .2) (p .3) f (at-graph-read .graph-read .ensures) v (at-decision .decision .ensures) in
+    let n = node-goes (p .0) (p .2) (p .3) f (faulty (a .faults .now)) (a .vector .now) d (at-exit-taken .exit-taken .ensures) (at-if2 .if2 .left) in
+    node-saved t (p .0) (p .2) (p .3) f (w .saved) (rw (w .right) (sym (n .2))) (at-put2 .put2 .ensures))

@@ -13,8 +13,8 @@ put-grading-requires c κs =
     let f = few-faults _ (m .before .before .before .before .before .before .pre .0) in (
       omega arith,
       f,
-      omega (arith, f, m .before .before .fault-room .ensures, m .first-marking .kept .1 .1 .0),
-      omega (arith, f, at-fault-room-2 .fault-room2 .ensures, c .before .before .before .before .tally .kept .1 .1 .0),
+      omega (arith, f, m .before .before .fault-table .ensures, m .first-marking .kept .1 .1 .0),
+      omega (arith, f, at-fault-room-2 .fault-table2 .ensures, c .before .before .before .before .tally .kept .1 .1 .0),
     )
 
 returns : tie.Need-returns
@@ -22,7 +22,7 @@ returns c =
     let at-rule = c .before .before .before .before .before .before in
     let m = at-rule .before .before .before in
     let e = m .before .before .before .before .before .before .pre .0 in
-    let b = m .before .before .fault-room in
+    let b = m .before .before .fault-table in
     let q = sym (m .first-marking .ensures .0) ∙ at-rule .rule .given .1 in
     rw (list-refused _ _ e (b .result) (omega (arith, few-faults _ e, b .ensures)) q, ← c .before .before .before .rule-number .ensures)
     (c .before .before .put-refused .ensures)
@@ -33,8 +33,8 @@ returns-2 c =
     let m = t .before .before .before .before .before .before .before in
     let e = m .before .before .before .before .before .before .pre .0 in
     let f = few-faults _ e in
-    let b = m .before .before .fault-room in
-    let d = t .before .before .fault-room2 in
+    let b = m .before .before .fault-table in
+    let d = t .before .before .fault-table2 in
     let q = sym (m .first-marking .ensures .0) ∙ t .before .before .before .before .marked .given .1 in
     rw (graded-told _ _ e (b .result) (d .result) _ _ _ (omega (arith, f, b .ensures)) (omega (arith, f, d .ensures)) q (m .first-marking .ensures .1) (t .tally .ensures .1))
     (c .before .before .put-grading .ensures)
