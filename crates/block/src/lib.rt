@@ -1,4 +1,5 @@
-// A block of vectors taken in by the running result of a grading, one vector after the other. Where faults are dropped once marked, a graph without unmarked faults is left out.
+// A block of vectors taken in by the running result of a grading, one vector after the other. Where faults are dropped once marked, a graph without
+// unmarked faults is left out.
 ghost use mathlib.Core.Bool.{true};
 ghost use Prim.Native.Nat.{_≤_, _<_};
 ghost use lib.ListN.{length};

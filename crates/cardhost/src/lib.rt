@@ -1,4 +1,5 @@
-// The calls for the fixture's host, in C: a card, a vector and a buffer are bytes, each word four of them, highest byte first, and the answer is one 64-bit number.
+// The calls for the fixture's host, in C: a card, a vector and a buffer are bytes, each word four of them, highest byte first, and the answer is one 64-bit
+// number.
 ghost use mathlib.Core.Path.{_≡_};
 ghost use mathlib.Core.List.{[], _∷_};
 ghost use Rattle.hostcheck.specs.Calls.{checkAnswer, checkBytes};

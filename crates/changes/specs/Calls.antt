@@ -21,7 +21,8 @@ changeTests g room c =
     ∷ test (ltb room (c .graphs)) BufferTooShort 0
     ∷ []
 
--- THE CHANGE LIST of graph g: its length, and in the buffer's front the numbers, rising, of the graphs that differ when g alone is held at the opposite of its good value
+-- THE CHANGE LIST of graph g: its length, and in the buffer's front the numbers, rising, of the graphs that differ when g alone is held at the opposite of
+-- its good value
 abbrev pub changeReply : List ℕ → List ℕ → ℕ → List ℕ → Reply
 changeReply ws x g b =
     replied (checked ws) (λ c. callTests (vectorVerdict (c .inputs) x) (changeTests g (length b) c))

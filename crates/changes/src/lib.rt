@@ -112,13 +112,13 @@ fn is_caught(caught: u32) -> u32
 }
 
 // The same for the first n places, into a buffer.
-fn flag_places(caught: &[u32], n: usize, flags: &mut [u32])
-    requires { ⌜ (n ≤ length (now caught)) × (n ≤ length (now flags)) ⌝ }
-    ensures { λ _. ⌜ now (flags .exit) ≡ over n (λ j. choose (ltb (getD (now (caught .entry)) j 0) 2) 1 0) (now (flags .entry)) ⌝ }
+fn flag_places(caught: &[u32], n: usize, nodes: &mut [u32])
+    requires { ⌜ (n ≤ length (now caught)) × (n ≤ length (now nodes)) ⌝ }
+    ensures { λ _. ⌜ now (nodes .exit) ≡ over n (λ j. choose (ltb (getD (now (caught .entry)) j 0) 2) 1 0) (now (nodes .entry)) ⌝ }
 {
     let mut j = 0;
     while j < n {
-        flags[j] = is_caught(lists::get(caught, j));
+        nodes[j] = is_caught(lists::get(caught, j));
         j += 1;
     }
 }

@@ -1,5 +1,5 @@
--- What the fast change walk keeps: it starts at the lowest reader of its graph and ends past the highest reader of the listed ones. No contract of a call cites it.
--- Assumes nothing.
+-- What the fast change walk keeps: it starts at the lowest reader of its graph and ends past the highest reader of the listed ones. No contract of a call
+-- cites it. Assumes nothing.
 use Prim.Native.Nat.{ℕ, _+_, _<_, _≤_}
 use mathlib.Core.Path.{_≡_}
 use mathlib.Core.List.{List}

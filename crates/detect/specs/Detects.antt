@@ -1,4 +1,5 @@
--- What a vector catches, and which graphs and nodes are critical under it, by faults and values alone: document 01, 'Values and faults'. For an accepted card. Assumes nothing.
+-- What a vector catches, and which graphs and nodes are critical under it, by faults and values alone: document 01, 'Values and faults'. For an accepted
+-- card. Assumes nothing.
 use Prim.Native.Nat.{ℕ, zero, suc, _+_, _-_, _*_}
 use mathlib.Core.List.{List, [], _∷_}
 use mathlib.Core.Bool.{Bool, not, _&&_}

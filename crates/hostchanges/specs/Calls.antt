@@ -1,4 +1,5 @@
--- Change lists and critical nodes in bytes: document 01, 'Calls'. By the definitions of the calls by words, over the words that the bytes hold. Assumes nothing.
+-- Change lists and critical nodes in bytes: document 01, 'Calls'. By the definitions of the calls by words, over the words that the bytes hold. Assumes
+-- nothing.
 use Prim.Native.Nat.{ℕ}
 use mathlib.Core.List.{List}
 use Rattle.lists.specs.Counting.{choose, count}

@@ -1,5 +1,5 @@
--- What the calls of the fixture's host share: document 01, 'Calls'. Cards, vectors and buffers are bytes, each word four of them, highest byte first; the answer
--- is one 64-bit number. Assumes nothing.
+-- What the calls of the fixture's host share: document 01, 'Calls'. Cards, vectors and buffers are bytes, each word four of them, highest byte first; the
+-- answer is one 64-bit number. Assumes nothing.
 use Prim.Native.Nat.{ℕ, _+_, _*_, _/_, _%_}
 use mathlib.Core.List.{List, [], _∷_}
 use lib.ListN.{length}

@@ -90,7 +90,8 @@ fn list_form(m: usize, list: &[u8]) -> Verdict
     check_words(m, list)
 }
 
-// How a call with one vector opens: the card is accepted and the vector of the form, and their words stand in the front of the buffers; or the call is refused.
+// How a call with one vector opens: the card is accepted and the vector of the form, and their words stand in the front of the buffers; or the call is
+// refused.
 pub fn open_vector(card: &[u8], vector: &[u8], ws: &mut [u32], x: &mut [u32]) -> Answer
     requires { ⌜ (9216 ≤ length (now ws)) × (64 ≤ length (now x)) ⌝ }
     ensures { λ r. ⌜ OpenedVector (now (card .entry)) (now (vector .entry)) (now (ws .exit)) (now (x .exit)) r ⌝ }

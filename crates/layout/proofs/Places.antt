@@ -59,8 +59,11 @@ module _ {ws firsts : List ℕ} {g : ℕ} (y : Walkable ws firsts g) where
   pub size-is : {f n : ℕ} → f ≡ getD firsts g 0 → n ≡ getD firsts (g + 1) 0 → n ≡ f + size ws g
   size-is e u = u ∙ y .next ∙ ap (_+ size ws g) (sym (e ∙ y .here))
 
-  pub node-among : {f n k : ℕ} → f ≡ getD firsts g 0 → n ≡ getD firsts (g + 1) 0 → k < n - f → k < size ws g
-  node-among e u b = omega (arith, size-is e u)
+  pub size-asks : (g + 1 < length firsts) × (getD firsts g 0 ≤ getD firsts (g + 1) 0)
+  size-asks = (y .long, omega (arith, y .here, y .next))
+
+  pub size-told : {n : ℕ} → n ≡ getD firsts (g + 1) 0 - getD firsts g 0 → n ≡ size ws g
+  size-told u = omega (arith, y .here, y .next)
 
   -- its header, where the table gives its first node as f
   module _ {f : ℕ} (e : f ≡ getD firsts g 0) where

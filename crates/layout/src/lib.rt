@@ -1,6 +1,6 @@
 // The room of an accepted card's parts: where its nodes stand, what a node reads, decides and takes, and the card's tables, made once.
 ghost use mathlib.Core.Path.{_≡_};
-ghost use Prim.Native.Nat.{ℕ, _+_, _*_, _≤_, _<_};
+ghost use Prim.Native.Nat.{ℕ, _+_, _*_, _-_, _≤_, _<_};
 ghost use lib.ListN.{length, getD};
 ghost use Rattle.lists.specs.Tables.{over};
 ghost use Rattle.word32.specs.Fields.{readGraph, exitOf};
@@ -84,6 +84,15 @@ pub fn first_node(firsts: &[u32], g: usize) -> usize
     lists::get(firsts, g) as usize
 }
 
+// The number of nodes of graph g.
+pub fn graph_size(firsts: &[u32], g: usize) -> usize
+    requires { ⌜ (g + 1 < length (now firsts)) × (getD (now firsts) g 0 ≤ getD (now firsts) (g + 1) 0) ⌝ }
+    ensures { λ r. ⌜ r ≡ getD (now (firsts .entry)) (g + 1) 0 - getD (now (firsts .entry)) g 0 ⌝ }
+{
+    let first = first_node(firsts, g);
+    first_node(firsts, g + 1) - first
+}
+
 // The graph that node j, of graph g, reads.
 pub fn graph_read(card: &[u32], g: usize, j: usize) -> usize
     requires { ⌜ g + 1 + 2 * j < length (now card) ⌝ }
@@ -144,8 +153,7 @@ fn note_graph(card: &[u32], firsts: &[u32], h: usize, lows: &mut [u32], highs: &
     ensures { λ _. ⌜ ReachBelow (now (card .entry)) (h + 1) 0 (now (lows .exit)) (now (highs .exit)) ⌝ }
 {
     let first = first_node(firsts, h);
-    let next = first_node(firsts, h + 1);
-    let n = next - first;
+    let n = graph_size(firsts, h);
     let mut k = 0;
     while k < n {
         note_node(card, h, first + k, lows, highs);

@@ -1,4 +1,5 @@
--- What the parts of the check of nodes tell their callers: a sound node's exits, and the table of named nodes. The check's own contract cites none of these. Assumes nothing.
+-- What the parts of the check of nodes tell their callers: a sound node's exits, and the table of named nodes. The check's own contract cites none of
+-- these. Assumes nothing.
 use Prim.Native.Nat.{ℕ, zero, suc, _+_, _*_, _<_}
 use mathlib.Core.Path.{_≡_}
 use mathlib.Core.List.{List}

@@ -1,4 +1,5 @@
-// The running result of a grading: it takes in what one vector catches at a time, for both gradings. No card is in it: the words of the faults lie in a lent buffer, two for each place.
+// The running result of a grading: it takes in what one vector catches at a time, for both gradings. No card is in it: the words of the faults lie in a
+// lent buffer, two for each place.
 ghost use mathlib.Core.Path.{_≡_};
 ghost use mathlib.Core.Bool.{false};
 ghost use Prim.Native.Nat.{_+_, _*_, _≤_, _<_};

@@ -39,7 +39,8 @@ pub none-later : {ws : List ℕ} {c : Counts} {x xs : List ℕ} {g n : ℕ} → 
 none-later s e = record { done = s; later = λ i h l. absurd (omega arith) }
 
 module _ {ws firsts : List ℕ} {c : Counts} (y : Ready ws c firsts) where
-  -- local node k of graph g, whose first node the table gives as f: its decision d and its exit a, where the values of the lower graphs and of the later nodes are there
+  -- local node k of graph g, whose first node the table gives as f: its decision d and its exit a, where the values of the lower graphs and of the later
+  -- nodes are there
   module _ {g k f : ℕ} (h : g < c .graphs) (l : k < size ws g) (e : f ≡ getD firsts g 0) where
     module _ (x xs : List ℕ) {d a : ℕ} (q : d ≡ decided (getD ws (g + 1 + 2 * (f + k)) 0) (getD xs (c .nodes + readGraph (getD ws (g + 1 + 2 * (f + k)) 0)) 0))
         (u : a ≡ exitOf (getD ws (g + 2 + 2 * (f + k)) 0) d) (p : Partly ws c x g (k + 1) xs) where

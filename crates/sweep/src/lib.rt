@@ -1,4 +1,5 @@
-// The good values of all nodes and graphs of a card under one vector, in one sweep: graphs from the first to the last, in each its nodes from the last to the first.
+// The good values of all nodes and graphs of a card under one vector, in one sweep: graphs from the first to the last, in each its nodes from the last to
+// the first.
 ghost use mathlib.Core.Path.{_≡_};
 ghost use mathlib.Core.List.{List};
 ghost use Prim.Native.Nat.{ℕ, _+_, _-_, _≤_, _<_};
@@ -64,8 +65,8 @@ fn sweep_graph(
         return;
     }
     let first = layout::first_node(firsts, g);
-    let next = layout::first_node(firsts, g + 1);
-    sweep_nodes(card, c, firsts, g, next - first, values);
+    let n = layout::graph_size(firsts, g);
+    sweep_nodes(card, c, firsts, g, n, values);
     let v = lists::get(values, first);
     lists::put(values, place, v);
 }

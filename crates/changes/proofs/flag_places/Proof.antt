@@ -1,4 +1,5 @@
--- `changes::flag_places` meets its contract. The invariant: the flags below j are those of their places, and the others as they were. Assumes nothing.
+-- `changes::flag_places` meets its contract. The invariant: the words below j tell what is caught at their places, and the others as they were. Assumes
+-- nothing.
 use Prim.Native.Nat.{_≤_, _-_}
 use mathlib.Core.Path.{_≡_, refl, sym, _∙_}
 use native.Mathlib.Omega.{arith}
@@ -12,10 +13,10 @@ use Rattle.changes.proofs.flag_places.Statement.{statement}
 use Rattle.changes.proofs.flag_places.Tie as tie
 
 abbrev Inv-loop : tie.InvT-loop
-Inv-loop caught n flags₀ j₀ flags j = (j ≤ n) × (length flags ≡ length flags₀) × (flags ≡ over j (λ i. choose (ltb (getD caught i 0) 2) 1 0) flags₀)
+Inv-loop caught n nodes₀ j₀ nodes j = (j ≤ n) × (length nodes ≡ length nodes₀) × (nodes ≡ over j (λ i. choose (ltb (getD caught i 0) 2) 1 0) nodes₀)
 
 abbrev μ-loop : tie.MeasureT-loop
-μ-loop caught n flags₀ j₀ flags j = n - j
+μ-loop caught n nodes₀ j₀ nodes j = n - j
 
 loop-holds : tie.Need-loop-holds Inv-loop μ-loop
 loop-holds c = (omega arith, refl, sym (over-none _ _))

@@ -1,5 +1,6 @@
--- `reader::word_due` meets its contract: a walk of its MIR, by hand. The `Reader` that `new` returns is held in a local and passed to `next`; all that is known of the two is that each meets its contract.
--- In a local of a body MIR erases the lifetime of the struct's type, so the value is shown to have the type at `erased`: what the struct owns does not say the lifetime's name. Assumes nothing.
+-- `reader::word_due` meets its contract: a walk of its MIR, by hand. The `Reader` that `new` returns is held in a local and passed to `next`; all that is
+-- known of the two is that each meets its contract. In a local of a body MIR erases the lifetime of the struct's type, so the value is shown to have the
+-- type at `erased`: what the struct owns does not say the lifetime's name. Assumes nothing.
 use mathlib.Core.Path.{_≡_, refl, ap, _∙_}
 use Prim.Native.Nat.{ℕ, _<_, _^_}
 use mathlib.Core.List.{List, [], _∷_}

@@ -1,4 +1,5 @@
--- `report::put_decimal`, which calls itself for the digits before the last, meets its contract. The falling number is the one whose digits are put. Assumes nothing.
+-- `report::put_decimal`, which calls itself for the digits before the last, meets its contract. The falling number is the one whose digits are put. Assumes
+-- nothing.
 use Rattle.report.proofs.+put_decimal.Lts-put_decimal as put-decimal-lts
 use Rattle.report.proofs.put_decimal.Kinds as put-decimal-kinds
 use Rattle.report.proofs.put_decimal.Reads as put-decimal
