@@ -1,1 +1,1 @@
-// Document 01's starred cases as one table: definitions and one law, in specs/ and proofs/.
+// Document 01's starred cases as one table: what a row says, the rows, and one law over them all, in specs/ and proofs/.

@@ -1,0 +1,144 @@
+-- What a row of a table of cases says. It says it twice: by the definitions that the calls' own contracts cite, of each call the reply and the lent
+-- buffer after it, and by the marking rules of document 01. Assumes nothing.
+use Prim.Native.Nat.{ℕ, _-_, _*_, _/_, _%_}
+use mathlib.Core.Path.{_≡_}
+use mathlib.Core.List.{List, map}
+use mathlib.Core.Bool.{Bool, _&&_, _||_}
+use lib.ListN.{length, replicate}
+use lib.Dec.{ltb, leb, eqb}
+use Rattle.lists.specs.Counting.{choose, some-below, count}
+use Rattle.lists.specs.Tables.{at, tab, chosen, front}
+use Rattle.answers.specs.declared.Counts.{Counts}
+use Rattle.answers.specs.declared.Answer.the-variants.{Accepted}
+use Rattle.answers.specs.declared.Reply.{Reply}
+use Rattle.answers.specs.declared.Reply.the-variants.{Done}
+use Rattle.form.specs.Check.{checked}
+use Rattle.layout.specs.Layout.{first}
+use Rattle.testvectors.specs.Vectors.{bit, vectors, vector}
+use Rattle.plain.specs.Calls.{goodReply, goodBuffer}
+use Rattle.detect.specs.Detects.{standsIn, detects}
+use Rattle.detect.specs.Grading.{markBy}
+use Rattle.rules.specs.Rules.{listed, criticalNode, marksNode, marksGraph}
+use Rattle.changes.specs.Calls.{changeReply, changeBuffer, criticalReply, criticalBuffer}
+use Rattle.grade.specs.Calls.{gradeReply, marksBuffer, talliesBuffer}
+
+-- a card under one vector: the graphs' values, the change list of each graph, the faults caught, and for each node 1 where it is critical, else 0
+pub record Case : Type 0 where
+  pub card : List ℕ
+  pub counts : Counts
+  pub under : List ℕ
+  pub values : List ℕ
+  pub changes : List (List ℕ)
+  pub caught : List ℕ
+  pub critical : List ℕ
+
+-- a card under a list of vectors: the marked count, and for each fault its word of first-marking and its tally
+pub record Grading : Type 0 where
+  pub card : List ℕ
+  pub counts : Counts
+  pub under : List ℕ
+  pub marked : ℕ
+  pub marks : List ℕ
+  pub tallies : List ℕ
+
+-- one graph of a card under each of some vectors: what it computes from the bits of the inputs
+pub record Function : Type 0 where
+  pub card : List ℕ
+  pub counts : Counts
+  pub under : List (List ℕ)
+  pub graph : ℕ
+  pub computes : (ℕ → Bool) → Bool
+
+-- A ROW is one of these
+pub data Row : Type 0 where
+  case : Case → Row
+  grading : Grading → Row
+  function : Function → Row
+
+-- the numbers below n
+abbrev pub numbers : ℕ → List ℕ
+numbers n = tab (λ i. i) n
+
+-- a word, 1 where the test holds, else 0
+abbrev pub flag : Bool → ℕ
+flag b = choose b 1 0
+
+-- a lent buffer of n words, each 5 before the call
+abbrev pub lent : ℕ → List ℕ
+lent n = replicate n 5
+
+-- a call with such a buffer: its reply, and the buffer after it; and the same of a call that is done with a number, and whose words are ws
+abbrev pub call : (List ℕ → Reply) → (List ℕ → List ℕ) → ℕ → Reply × List ℕ
+call reply buffer n = (reply (lent n), buffer (lent n))
+
+abbrev pub done : ℕ → List ℕ → ℕ → Reply × List ℕ
+done number ws n = (Done number, front ws (lent n))
+
+-- the graph in which node j stands, and its local number there
+module _ (ws : List ℕ) (c : Counts) where
+  abbrev pub home : ℕ → ℕ
+  home j = standsIn ws j (c .graphs)
+
+  abbrev pub local : ℕ → ℕ
+  local j = j - first ws (home j)
+
+-- by the marking rules, under the vector x: the change list of graph g; node j is critical; fault f is marked, one below 2N a node's, else a graph's
+module _ (ws : List ℕ) (c : Counts) (x : List ℕ) where
+  abbrev pub byRule2 : ℕ → List ℕ
+  byRule2 g = chosen (listed ws c x g) (c .graphs)
+
+  abbrev pub byRule4 : ℕ → Bool
+  byRule4 j = criticalNode ws c x (home ws c j) (local ws c j)
+
+  abbrev pub byRule5 : ℕ → Bool
+  byRule5 f =
+      (ltb f (2 * c .nodes) && marksNode ws c x (home ws c (f / 2)) (local ws c (f / 2)) (f % 2))
+      || (leb (2 * c .nodes) f && marksGraph ws c x (f / 2 - c .nodes) (f % 2))
+
+-- a case holds by the check, by the calls, by `detects`, and by rules 2, 4 and 5
+abbrev pub CaseHolds : Case → Type 0
+CaseHolds r =
+    let ws = r .card in
+    let c = r .counts in
+    let x = r .under in
+    let G = c .graphs in
+    let N = c .nodes in
+    (checked ws ≡ Accepted c)
+    × (call (goodReply ws x) (goodBuffer ws x) G ≡ done 0 (r .values) G)
+    × (map (λ g. call (changeReply ws x g) (changeBuffer ws x g) G) (numbers G) ≡ map (λ l. done (length l) l G) (r .changes))
+    × (call (criticalReply ws x) (criticalBuffer ws x) N ≡ done 0 (r .critical) N)
+    × (chosen (detects ws c x) (c .faults) ≡ r .caught)
+    × (map (byRule2 ws c x) (numbers G) ≡ r .changes)
+    × (tab (λ j. flag (byRule4 ws c x j)) N ≡ r .critical)
+    × (chosen (byRule5 ws c x) (c .faults) ≡ r .caught)
+
+-- a grading holds by the check, by the two calls, and by rule 5 over its n vectors: how many faults it marks, each fault's first vector and tally
+abbrev pub GradingHolds : Grading → Type 0
+GradingHolds r =
+    let ws = r .card in
+    let c = r .counts in
+    let xs = r .under in
+    let F = c .faults in
+    let n = vectors (c .inputs) xs in
+    let marks : ℕ → ℕ → Bool = λ f t. byRule5 ws c (vector (c .inputs) xs t) f in
+    (checked ws ≡ Accepted c)
+    × (call (gradeReply ws xs) (marksBuffer ws xs) F ≡ done (r .marked) (r .marks) F)
+    × (call (gradeReply ws xs) (talliesBuffer ws xs) F ≡ done (r .marked) (r .tallies) F)
+    × (count (λ f. some-below (marks f) n) F ≡ r .marked)
+    × (tab (λ f. markBy (marks f) n) F ≡ r .marks)
+    × (tab (λ f. count (marks f) n) F ≡ r .tallies)
+
+-- a function holds by the check and by the call for good values
+abbrev pub FunctionHolds : Function → Type 0
+FunctionHolds r =
+    let ws = r .card in
+    let G = r .counts .graphs in
+    (checked ws ≡ Accepted (r .counts))
+    × (map (λ x. goodReply ws x (lent G)) (r .under) ≡ map (λ x. Done 0) (r .under))
+    × (map (λ x. at (goodBuffer ws x (lent G)) (r .graph)) (r .under) ≡ map (λ x. flag (r .computes (λ i. eqb (bit x i) 1))) (r .under))
+
+-- WHAT A ROW SAYS
+abbrev pub Holds : Row → Type 0
+Holds (case r) = CaseHolds r
+Holds (grading r) = GradingHolds r
+Holds (function r) = FunctionHolds r
