@@ -1,7 +1,9 @@
--- The check's definition on document 01's short examples, in the order of its table, by computing. Assumes nothing.
+-- The check's definition on document 01's examples of refusals 1 to 9, in the order of its table, and on words that break two rules at once, by
+-- computing. Assumes nothing.
 use Prim.Native.Nat.{ℕ}
 use mathlib.Core.List.{List, [], _∷_, map}
 use mathlib.Core.Path.{_≡_, refl}
+use lib.ListN.{replicate}
 use Rattle.form.specs.Check.{checked, checkedWith}
 use Rattle.answers.specs.Answers.{numberOf, valuesOf}
 
@@ -21,6 +23,8 @@ abbrev pub table : List Case
 table =
     record { card = S; told = 1 ∷ 3 ∷ 3 ∷ 1 ∷ 12 ∷ [] }
     ∷ record { card = F; told = 3 ∷ 4 ∷ 3 ∷ 1 ∷ 14 ∷ [] }
+    ∷ record { card = replicate 9217 0; told = 1 ∷ 0 ∷ [] }
+    ∷ record { card = replicate 1025 0; told = 2 ∷ 1024 ∷ [] }
     ∷ record { card = 0 ∷ 0x20000000 ∷ []; told = 3 ∷ 1 ∷ [] }
     ∷ record { card = 0 ∷ 0x60000000 ∷ []; told = 4 ∷ 1 ∷ [] }
     ∷ record { card = 1 ∷ []; told = 5 ∷ 0 ∷ [] }
@@ -31,9 +35,18 @@ table =
     ∷ record { card = []; told = 9 ∷ 0 ∷ [] }
     ∷ []
 
+-- at one word the kind (4) comes before the bits that must be zero (5), and these before the count (3), the graph read (6) and the exits (7)
+abbrev pub twice-broken : List Case
+twice-broken =
+    record { card = 0 ∷ 0x40000001 ∷ 0x60000000 ∷ 0x80000001 ∷ 0x00000001 ∷ []; told = 4 ∷ 4 ∷ [] }
+    ∷ record { card = 0 ∷ 0x20010000 ∷ []; told = 5 ∷ 1 ∷ [] }
+    ∷ record { card = 0 ∷ 0x40000001 ∷ 0x60010001 ∷ 0x80000001 ∷ []; told = 5 ∷ 2 ∷ [] }
+    ∷ record { card = 0 ∷ 0x40000001 ∷ 0x60000000 ∷ 0x90000002 ∷ []; told = 5 ∷ 3 ∷ [] }
+    ∷ []
+
 abbrev pub answered : Case → Case
 answered c = record { card = c .card; told = valuesOf (checked (c .card)) }
 
-pub examples : map answered table ≡ table
+pub examples : (map answered table ≡ table) × (map answered twice-broken ≡ twice-broken)
 unfolding checkedWith numberOf
-examples = refl
+examples = (refl, refl)
