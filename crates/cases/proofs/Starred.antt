@@ -1,12 +1,11 @@
 -- Document 01's starred cases, by computing. Assumes nothing.
 use mathlib.Core.Path.{refl}
 use mathlib.Mathlib.Data.List.Defs.{Forall}
-use Rattle.lists.specs.Counting.{some-below, count, least}
-use Rattle.lists.specs.Tables.{grow, chosen}
+use Rattle.lists.specs.Tables.{chosen}
 use Rattle.form.specs.Check.{checkedWith}
 use Rattle.answers.specs.Calls.{replied, written}
 use Rattle.layout.specs.Layout.{isInput, observable, size, reads, exits, decides}
-use Rattle.testvectors.specs.Vectors.{bit, vectors, vector, vectorVerdict, listVerdict}
+use Rattle.testvectors.specs.Vectors.{bit, vectorVerdict, listVerdict}
 use Rattle.value.specs.Settings.{faulty}
 use Rattle.detect.specs.Detects.{changes, criticalAt}
 use Rattle.detect.specs.Grading.{mark, marked}
@@ -23,8 +22,7 @@ a also b = (a, b)
 
 pub starred-hold : Starred
 unfolding checkedWith replied written valuesTests changeTests criticalTests gradeTests vectorVerdict listVerdict
-    isInput observable size reads exits decides bit vectors vector faulty some-below count least grow chosen
-    changes criticalAt mark marked criticalNode Forall
+    isInput observable size reads exits decides bit faulty chosen changes criticalAt mark marked criticalNode Forall
 starred-hold =
     (refl, refl, refl, refl, refl, refl, refl, refl)
     also (refl, refl, refl, refl, refl, refl, refl, refl)

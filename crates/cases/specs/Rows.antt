@@ -17,7 +17,7 @@ use Rattle.layout.specs.Layout.{first}
 use Rattle.testvectors.specs.Vectors.{bit, vectors, vector}
 use Rattle.plain.specs.Calls.{goodReply, goodBuffer}
 use Rattle.detect.specs.Detects.{standsIn, detects}
-use Rattle.detect.specs.Grading.{markBy}
+use Rattle.detect.specs.Grading.{markBy, inGrade}
 use Rattle.rules.specs.Rules.{listed, criticalNode, marksNode, marksGraph}
 use Rattle.changes.specs.Calls.{changeReply, changeBuffer, criticalReply, criticalBuffer}
 use Rattle.grade.specs.Calls.{gradeReply, marksBuffer, talliesBuffer}
@@ -67,10 +67,11 @@ flag b = choose b 1 0
 abbrev pub lent : ℕ → List ℕ
 lent n = replicate n 5
 
--- a call with such a buffer: its reply, and the buffer after it; and the same of a call that is done with a number, and whose words are ws
+-- a call with such a buffer: its reply, and the buffer after it
 abbrev pub call : (List ℕ → Reply) → (List ℕ → List ℕ) → ℕ → Reply × List ℕ
 call reply buffer n = (reply (lent n), buffer (lent n))
 
+-- the same of a call that is done, answers with the number and leaves the words ws
 abbrev pub done : ℕ → List ℕ → ℕ → Reply × List ℕ
 done number ws n = (Done number, front ws (lent n))
 
@@ -112,7 +113,7 @@ CaseHolds r =
     × (tab (λ j. flag (byRule4 ws c x j)) N ≡ r .critical)
     × (chosen (byRule5 ws c x) (c .faults) ≡ r .caught)
 
--- a grading holds by the check, by the two calls, and by rule 5 over its n vectors: how many faults it marks, each fault's first vector and tally
+-- a grading holds by the check, by the two calls, and by rule 5 over its n vectors: the marked count, each fault's first vector and its tally
 abbrev pub GradingHolds : Grading → Type 0
 GradingHolds r =
     let ws = r .card in
@@ -124,7 +125,7 @@ GradingHolds r =
     (checked ws ≡ Accepted c)
     × (call (gradeReply ws xs) (marksBuffer ws xs) F ≡ done (r .marked) (r .marks) F)
     × (call (gradeReply ws xs) (talliesBuffer ws xs) F ≡ done (r .marked) (r .tallies) F)
-    × (count (λ f. some-below (marks f) n) F ≡ r .marked)
+    × (count (λ f. inGrade ws c xs f && some-below (marks f) n) F ≡ r .marked)
     × (tab (λ f. markBy (marks f) n) F ≡ r .marks)
     × (tab (λ f. count (marks f) n) F ≡ r .tallies)
 
