@@ -1,4 +1,4 @@
--- Document 01's starred cases, by computing. Assumes nothing.
+-- Document 01's starred cases, by computing: row by row, one `refl` for each equation of `Holds`. Assumes nothing.
 use mathlib.Core.Path.{refl}
 use mathlib.Mathlib.Data.List.Defs.{Forall}
 use Rattle.lists.specs.Tables.{chosen}
