@@ -2,32 +2,44 @@
 // It goes through the words once, forward, each word by the reader.
 ghost use mathlib.Core.Path.{_≡_};
 ghost use Prim.Native.Nat.{_≤_};
-ghost use lib.ListN.{length};
 ghost use lib.Dec.{eqb};
 ghost use Rattle.lists.specs.Counting.{choose};
 ghost use Rattle.word32.specs.Fields.{kind};
-ghost use Rattle.form.specs.Check.{word, place, withGraph, inputTests, outputTests, headerVerdict, graphVerdict, ended, checkedWith, checked};
+ghost use Rattle.form.specs.Check.{counts, place, withGraph, inputTests, outputTests, headerVerdict, rest, checkedWith, checked};
 ghost use Rattle.answers.specs.Tests.{firstBroken};
-ghost use Rattle.layout.specs.Shape.{Shape};
-ghost use Rattle.cardcheck.specs.Graph.{graphTold};
+ghost use Rattle.nodecheck.specs.Table.{Blank};
+ghost use Rattle.cardcheck.specs.Graph.{EndTold, AtPlace, openingOf, OpeningTold, Few, GraphTold};
 use answers::Answer;
 use answers::Counts;
 use answers::Rule;
 use answers::Verdict;
+use nodecheck::Named;
 use reader::Due;
 
-// One graph more, where it is sound.
+// A sound header: its word, where it stands, and how many nodes follow.
+struct Header {
+    word: u32,
+    at: usize,
+    nodes: usize,
+}
+
+// What is due after some graphs: a graph more, or the check is over.
+enum Opening {
+    Graph(Header),
+    Over(Answer),
+}
+
+// What a graph comes to: the counts with it, or the check is over.
 enum Graph {
     Read(Counts),
-    Bad(Rule, usize),
+    Over(Answer),
 }
 
 // An input's header.
-fn check_input(w: u32, c: Counts) -> Verdict
-    requires { ⌜ (c .graphs ≤ 1024) × (c .nodes ≤ 4096) ⌝ }
+fn check_input(w: u32, at: usize, c: Counts) -> Verdict
+    requires { ⌜ (at ≡ place c) × (c .nodes ≤ 4096) ⌝ }
     ensures { λ r. ⌜ r ≡ firstBroken (inputTests w c) ⌝ }
 {
-    let at = c.graphs + 2 * c.nodes;
     if c.inputs < c.graphs {
         return Verdict::Broken(Rule::WordNotDue, at);
     }
@@ -38,11 +50,10 @@ fn check_input(w: u32, c: Counts) -> Verdict
 }
 
 // An output's header.
-fn check_output(w: u32, c: Counts) -> Verdict
-    requires { ⌜ (c .graphs ≤ 1024) × (c .nodes ≤ 4096) ⌝ }
+fn check_output(w: u32, at: usize, c: Counts) -> Verdict
+    requires { ⌜ (at ≡ place c) × (c .nodes ≤ 4096) ⌝ }
     ensures { λ r. ⌜ r ≡ firstBroken (outputTests w c) ⌝ }
 {
-    let at = c.graphs + 2 * c.nodes;
     let n = word32::node_count(w);
     if 2 < word32::kind(w) {
         return Verdict::Broken(Rule::WordNotDue, at);
@@ -60,17 +71,17 @@ fn check_output(w: u32, c: Counts) -> Verdict
 }
 
 // Any header.
-fn check_header(w: u32, c: Counts) -> Verdict
-    requires { ⌜ (c .graphs ≤ 1024) × (c .nodes ≤ 4096) ⌝ }
+fn check_header(w: u32, at: usize, c: Counts) -> Verdict
+    requires { ⌜ (at ≡ place c) × (c .nodes ≤ 4096) ⌝ }
     ensures { λ r. ⌜ r ≡ headerVerdict w c ⌝ }
 {
     if 1024 <= c.graphs {
-        return Verdict::Broken(Rule::TooManyGraphs, c.graphs + 2 * c.nodes);
+        return Verdict::Broken(Rule::TooManyGraphs, at);
     }
     if word32::kind(w) == 0 {
-        return check_input(w, c);
+        return check_input(w, at, c);
     }
-    check_output(w, c)
+    check_output(w, at, c)
 }
 
 // 1 where a word is of kind k, else 0.
@@ -85,7 +96,7 @@ fn is_kind(w: u32, k: u32) -> usize
 
 // The counts with one graph more, whose header is w.
 fn with_graph(w: u32, c: Counts) -> Counts
-    requires { ⌜ (c .inputs ≤ 1024) × (c .graphs ≤ 1024) × (c .nodes ≤ 4096) × (c .observable ≤ 1024) ⌝ }
+    requires { ⌜ Few c ⌝ }
     ensures { λ r. ⌜ r ≡ withGraph w c ⌝ }
 {
     let inputs = c.inputs + is_kind(w, 0);
@@ -101,37 +112,88 @@ fn with_graph(w: u32, c: Counts) -> Counts
     }
 }
 
-// One graph, whose header w is the word due.
-fn check_graph(card: &[u32], w: u32, c: Counts, table: &mut [u32]) -> Graph
-    requires { ⌜ Shape (now card) c × (w ≡ word (now card) (place c)) × (4096 ≤ length (now table)) × (length (now card) ≤ 9216) ⌝ }
-    ensures { λ r. ⌜ r ≡ graphTold (graphVerdict (now (card .entry)) c) (withGraph w c) ⌝ }
-{
-    if let Verdict::Broken(rule, position) = check_header(w, c) {
-        return Graph::Bad(rule, position);
-    }
-    let p = c.graphs + 2 * c.nodes;
-    let n = word32::node_count(w);
-    lists::fill(table, n, 0);
-    if let Verdict::Broken(rule, position) = nodecheck::check_nodes(card, c.graphs, p, n, table) {
-        return Graph::Bad(rule, position);
-    }
-    if nodecheck::has_unnamed(table, n) {
-        return Graph::Bad(Rule::NodeNotNamed, p);
-    }
-    Graph::Read(with_graph(w, c))
-}
-
-// The words end after the graphs that c counts.
-fn finish(card: &[u32], extra: usize, c: Counts) -> Answer
-    ensures { λ r. ⌜ r ≡ ended (now (card .entry)) extra c ⌝ }
+// The words end after the graphs that c counts; len is how many they are.
+fn finish(len: usize, extra: usize, c: Counts) -> Answer
+    ensures { λ r. ⌜ EndTold len extra c r ⌝ }
 {
     if 0 < extra {
-        return Answer::Refused(Rule::WordNotDue, card.len());
+        return Answer::Refused(Rule::WordNotDue, len);
     }
     if c.observable == 0 {
-        return Answer::Refused(Rule::NothingObservable, card.len());
+        return Answer::Refused(Rule::NothingObservable, len);
     }
     Answer::Accepted(c)
+}
+
+// A header that is due.
+fn open_word(w: u32, at: usize, c: Counts) -> Opening
+    requires { ⌜ (at ≡ place c) × (c .nodes ≤ 4096) ⌝ }
+    ensures { λ r. ⌜ r ≡ openingOf (headerVerdict w c) w at ⌝ }
+{
+    if let Verdict::Broken(rule, position) = check_header(w, at, c) {
+        return Opening::Over(Answer::Refused(rule, position));
+    }
+    let nodes = word32::node_count(w);
+    Opening::Graph(Header { word: w, at, nodes })
+}
+
+// What is due after the graphs that c counts: one graph more, or the end of the words.
+fn open_graph(due: Due, c: Counts, extra: usize) -> Opening
+    requires { ⌜ (c .nodes ≤ 4096) × AtPlace due c ⌝ }
+    ensures { λ r. ⌜ OpeningTold due c extra r ⌝ }
+{
+    match due {
+        Due::Word(w, at) => open_word(w, at, c),
+        Due::End(len) => Opening::Over(finish(len, extra, c)),
+    }
+}
+
+// The graph whose header and nodes are read: whether each node is named, and then the counts with it. The table is blank again after a sound graph.
+fn close_graph(h: Header, nodes: Verdict, c: Counts, table: &mut Named) -> Graph
+    requires { ⌜ (h .nodes ≤ 4096) × Few c ⌝ }
+    ensures { λ r. ⌜ GraphTold h nodes c (now (table .entry)) (now (table .exit)) r ⌝ }
+{
+    if let Verdict::Broken(rule, position) = nodes {
+        return Graph::Over(Answer::Refused(rule, position));
+    }
+    if nodecheck::take_unnamed(table, h.nodes) {
+        return Graph::Over(Answer::Refused(Rule::NodeNotNamed, h.at));
+    }
+    Graph::Read(with_graph(h.word, c))
+}
+
+// All the words, and so many bytes after them that make no word: one reader goes from the first word to the last.
+fn check_words(card: &[u32], extra: usize, table: &mut Named) -> Answer
+    requires { ⌜ Blank (now table) ⌝ }
+    ensures { λ r. ⌜ r ≡ rest (now (card .entry)) extra 1025 (counts 0 0 0 0) ⌝ }
+{
+    let mut r = reader::new(card, 0);
+    let mut c = Counts {
+        inputs: 0,
+        graphs: 0,
+        nodes: 0,
+        observable: 0,
+        faults: 0,
+    };
+    loop {
+        let due = reader::next(&mut r);
+        match open_graph(due, c, extra) {
+            Opening::Over(answer) => {
+                return answer;
+            }
+            Opening::Graph(h) => {
+                let nodes = nodecheck::check_nodes(&mut r, c.graphs, h.nodes, table);
+                match close_graph(h, nodes, c, table) {
+                    Graph::Over(answer) => {
+                        return answer;
+                    }
+                    Graph::Read(d) => {
+                        c = d;
+                    }
+                }
+            }
+        }
+    }
 }
 
 // The check of a card whose words are followed by so many bytes that make no word.
@@ -141,27 +203,8 @@ pub fn check_with(card: &[u32], extra: usize) -> Answer
     if 9216 < card.len() {
         return Answer::Refused(Rule::CardTooLong, 0);
     }
-    let mut table = layout::node_table();
-    let mut c = Counts {
-        inputs: 0,
-        graphs: 0,
-        nodes: 0,
-        observable: 0,
-        faults: 0,
-    };
-    loop {
-        let Due::Word(w) = reader::word_due(card, c.graphs + 2 * c.nodes) else {
-            return finish(card, extra, c);
-        };
-        match check_graph(card, w, c, &mut table) {
-            Graph::Read(d) => {
-                c = d;
-            }
-            Graph::Bad(rule, position) => {
-                return Answer::Refused(rule, position);
-            }
-        }
-    }
+    let mut table = nodecheck::none_named();
+    check_words(card, extra, &mut table)
 }
 
 // The check of a card.

@@ -66,6 +66,10 @@ module _ (ws : List ℕ) where
       leb-false g (readGraph (word ws p))
       (word-sound p 3 (not (eqb (readSpare (word ws p)) 0)) (leb g (readGraph (word ws p))) ReadNotBelow e .1)
 
+  pub read-there : (g p : ℕ) → readVerdict ws g p ≡ Sound → p < length ws
+  unfolding readVerdict
+  read-there g p e = word-sound p 3 (not (eqb (readSpare (word ws p)) 0)) (leb g (readGraph (word ws p))) ReadNotBelow e .0
+
   pub exits-sound : (n k p : ℕ) → exitsVerdict ws n k p ≡ Sound
       → (p < length ws) × ((misplaced n k (exitOf (word ws p) 0) ≡ false) × (misplaced n k (exitOf (word ws p) 1) ≡ false))
   unfolding exitsVerdict
@@ -87,10 +91,6 @@ module _ (ws : List ℕ) where
         | yes z ↦ rw z (then-sound (readVerdict ws g (p + 1 + 2 * k)) _ a)
         | no z ↦ nodes-sound g p n left (suc k) b i (omega arith) (omega arith)
       ]
-
-  pub node-exits : (g p n k : ℕ) → nodeVerdict ws g p n k ≡ Sound → exitsVerdict ws n k (p + 2 + 2 * k) ≡ Sound
-  unfolding nodeVerdict
-  node-exits g p n k e = then-sound (readVerdict ws g (p + 1 + 2 * k)) _ e .1
 
   -- an exit names a node of the graph, or none
   pub exits-inside : (n k p d : ℕ) → exitsVerdict ws n k p ≡ Sound → exitOf (word ws p) d < n + 2

@@ -1,4 +1,5 @@
--- The table of named nodes, and the turns of the loop.
+-- The table of named nodes, a table that is lent again, and the turns of the loop.
 
+pub mod Lent
 pub mod Table
 mod Turns

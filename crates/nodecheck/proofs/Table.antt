@@ -4,22 +4,25 @@ use mathlib.Core.Path.{_≡_, refl, ap, _∙_}
 use mathlib.Core.List.{List}
 use mathlib.Core.Bool.{Bool, true, false, not, _||_}
 use native.Mathlib.Omega.{arith}
-use native.Mathlib.Decide.{ℕ-discrete}
+use native.Mathlib.Decide.{ℕ-discrete, decLt}
 use native.Mathlib.Numerals.{add-one}
-use lib.ListN.{length, getD, set, length-set}
-use lib.Seq.{getD-set-same, getD-set-other}
+use lib.ListN.{length, getD, set, drop, replicate, length-set, length-replicate, getD-replicate}
+use lib.Seq.{getD-set-same, getD-set-other, getD-append-add, getD-drop}
 use lib.Dec.{eqb}
-use borrow.Author.Tests.{eq-eqb, ne-eqb}
+use borrow.Author.Tests.{lt-ltb, le-ltb, eq-eqb, ne-eqb}
 use Rattle.lists.specs.Counting.{choose, some-below}
-use Rattle.lists.specs.Tables.{over, always}
+use Rattle.lists.specs.Tables.{tab, over, always}
 use Rattle.lists.proofs.Tests.{some-same, some-has}
-use Rattle.lists.proofs.Tables.{over-at}
+use Rattle.lists.proofs.Tables.{length-tab, over-at, length-over}
 use Rattle.word32.specs.Fields.{exitOf}
 use Rattle.answers.specs.declared.Rule.{Rule}
 use Rattle.answers.specs.declared.Verdict.{Verdict}
 use Rattle.answers.specs.declared.Verdict.the-variants.{Sound, Broken}
+use Rattle.reader.specs.Due.{dueAt}
+use Rattle.reader.specs.declared.Due.{Due}
+use Rattle.reader.specs.declared.Due.the-variants as due
 use Rattle.form.specs.Check.{word, names, unnamed}
-use Rattle.nodecheck.specs.Table.{exitsTold, nameExit, Names, zeroAfter}
+use Rattle.nodecheck.specs.Table.{exitsTold, nameExit, Blank, Names, zeroAfter}
 use Rattle.nodecheck.specs.declared.Exits.the-variants as exits
 
 -- what a part hands back tells its verdict
@@ -32,6 +35,22 @@ pub bad-broken : (v : Verdict) (w : ℕ) (r : Rule) (p : ℕ) → exitsTold v w 
 unfolding exitsTold
 bad-broken Sound w r p e = let z : _≡_ {A = ℕ} 0 1 = cc in absurd (omega arith)
 bad-broken (Broken r′ p′) w r p e = cc
+
+-- Whatever is due is due in some list of words; so what is told of every such list is told of one.
+abbrev pub listOf : Due → List ℕ
+listOf (due.Word w at) = replicate (suc at) w
+listOf (due.End n) = replicate n 0
+
+abbrev pub placeOf : Due → ℕ
+placeOf (due.Word w at) = at
+placeOf (due.End n) = n
+
+pub some-list : (d : Due) → d ≡ dueAt (listOf d) (placeOf d)
+unfolding dueAt
+some-list (due.Word w at) =
+    let h : at < length (replicate (suc at) w) = omega (arith, length-replicate (suc at) w) in
+    rw (lt-ltb at (length (replicate (suc at) w)) h, getD-replicate (suc at) at w 0 (omega arith))
+some-list (due.End n) = rw (length-replicate {A = ℕ} n 0, le-ltb n n (omega arith))
 
 -- an exit in the table
 pub name-none : (e : ℕ) (t : List ℕ) → e ≤ 1 → t ≡ nameExit e t
@@ -86,10 +105,16 @@ module _ (t : List ℕ) where
   unfolding zeroAfter
   zero-more i e n = rw (add-one, e) (ne-eqb _ 0 (rw add-one at n))
 
+module _ (ws : List ℕ) (p : ℕ) where
+  -- the exits of node k in the table leave its length
+  pub names-length : (k : ℕ) (t : List ℕ)
+      → length (nameExit (exitOf (word ws (p + 2 + 2 * k)) 1) (nameExit (exitOf (word ws (p + 2 + 2 * k)) 0) t)) ≡ length t
+  names-length k t = name-length (exitOf (word ws (p + 2 + 2 * k)) 1) _ ∙ name-length (exitOf (word ws (p + 2 + 2 * k)) 0) t
+
 module _ (ws : List ℕ) (p n : ℕ) where
-  pub names-none : (t : List ℕ) → Names ws p n 0 (over n (always 0) t)
+  pub names-none : (t : List ℕ) → Blank t → Names ws p n 0 t
   unfolding some-below
-  names-none t = record { has = over-at (always 0) t n }
+  names-none t b = record { has = λ i h. b .zeros i; rest = λ i h. b .zeros i }
 
   -- one node more
   pub names-more : (k : ℕ) (t : List ℕ) → n ≤ length t → exitOf (word ws (p + 2 + 2 * k)) 0 < n + 2 → exitOf (word ws (p + 2 + 2 * k)) 1 < n + 2
@@ -98,11 +123,13 @@ module _ (ws : List ℕ) (p n : ℕ) where
   names-more k t l h0 h1 s =
       let e0 = exitOf (word ws (p + 2 + 2 * k)) 0 in
       let e1 = exitOf (word ws (p + 2 + 2 * k)) 1 in
+      let told : (i : ℕ) → getD (nameExit e1 (nameExit e0 t)) i 0 ≡ choose (eqb e1 (i + 2)) 1 (choose (eqb e0 (i + 2)) 1 (getD t i 0)) = λ i.
+      name-at e1 (nameExit e0 t) i (omega (arith, name-length e0 t)) ∙ ap (choose (eqb e1 (i + 2)) 1) (name-at e0 t i (omega arith)) in
       record {
         has = λ i h.
-            name-at e1 (nameExit e0 t) i (omega (arith, name-length e0 t))
-            ∙ ap (choose (eqb e1 (i + 2)) 1) (name-at e0 t i (omega arith) ∙ ap (choose (eqb e0 (i + 2)) 1) (s .has i h))
+            told i ∙ ap (λ (x : ℕ). choose (eqb e1 (i + 2)) 1 (choose (eqb e0 (i + 2)) 1 x)) (s .has i h)
             ∙ either-way (some-below (names ws p i) k) (eqb e0 (i + 2)) (eqb e1 (i + 2));
+        rest = λ i h. told i ∙ rw (ne-eqb e1 (i + 2) (λ q. omega arith), ne-eqb e0 (i + 2) (λ q. omega arith)) (s .rest i h);
       }
 
   -- a zero after the first place is a node that no exit names
@@ -110,3 +137,25 @@ module _ (ws : List ℕ) (p n : ℕ) where
   unfolding unnamed zeroAfter
   zero-unnamed t s =
       some-same _ _ (n - 1) (λ i h. ap (λ (x : ℕ). eqb x 0) (s .has (suc i) (omega arith)) ∙ unset (some-below (names ws p (suc i)) n))
+
+-- a table of zeros, and one whose first n places are cleared where the others are 0
+all-zeros : (n i : ℕ) → getD {A = ℕ} (replicate n 0) i 0 ≡ 0
+all-zeros zero i = refl
+all-zeros (suc n) zero = refl
+all-zeros (suc n) (suc i) = all-zeros n i
+
+pub blank-zeros : (n : ℕ) → n ≡ 4096 → Blank (replicate n 0)
+blank-zeros n e = record { long = length-replicate n 0 ∙ e; zeros = all-zeros n }
+
+pub blank-again : (n : ℕ) (t : List ℕ) → n ≤ 4096 → length t ≡ 4096 → ((i : ℕ) → n ≤ i → getD t i 0 ≡ 0) → Blank (over n (always 0) t)
+blank-again n t l e z = record {
+  long = length-over (always 0) t n (omega arith) ∙ e;
+  zeros = λ i. elim (decLt i n) [
+    | yes h ↦ over-at (always 0) t n i h
+    | no out ↦
+        let a : i ≡ length (tab (always 0) n) + (i - n) = omega (arith, length-tab (always 0) n) in
+        let b : n + (i - n) ≡ i = omega arith in
+        ap (λ (j : ℕ). getD (over n (always 0) t) j 0) a ∙ getD-append-add (tab (always 0) n) (drop n t) (i - n) 0
+        ∙ getD-drop n t (i - n) 0 ∙ ap (λ (j : ℕ). getD t j 0) b ∙ z i (omega arith)
+  ];
+}

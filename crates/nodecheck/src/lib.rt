@@ -1,13 +1,16 @@
-// The nodes of one graph: each node's pair of words, and the table of the local nodes that exits name.
+// The nodes of one graph: each node's pair of words, as the reader hands them out, and the table of the local nodes that exits name.
 ghost use mathlib.Core.Path.{_≡_};
-ghost use Prim.Native.Nat.{_+_, _-_, _≤_, _<_};
+ghost use Prim.Native.Nat.{_-_, _≤_, _<_};
 ghost use lib.ListN.{length};
-ghost use Rattle.form.specs.Check.{word, misplaced, readVerdict, exitsVerdict, nodesVerdict};
-ghost use Rattle.answers.specs.declared.Verdict.the-variants.{Sound};
-ghost use Rattle.nodecheck.specs.Table.{NodeTold, exitsTold, nameExit, Names, zeroAfter};
+ghost use Rattle.form.specs.Check.{misplaced};
+ghost use Rattle.nodecheck.specs.Table.{ReadWord, ReadTold, ExitsWord, ExitsOf, nameExit, Blank, ExitsTold, NodesTold, zeroAfter, UnnamedTold};
 use answers::Rule;
 use answers::Verdict;
 use reader::Due;
+use reader::Reader;
+
+// A word for each local node of any graph: 1 where an exit names it, and else 0.
+pub type Named = [u32; 4096];
 
 // A node's two exits, where they are sound.
 enum Exits {
@@ -15,13 +18,17 @@ enum Exits {
     Bad(Rule, usize),
 }
 
-// The read of a node in graph g, due at a place.
-fn check_read(card: &[u32], g: usize, at: usize) -> Verdict
-    ensures { λ r. ⌜ r ≡ readVerdict (now (card .entry)) g at ⌝ }
+// The table in which no node is named.
+pub fn none_named() -> Named
+    ensures { λ r. ⌜ Blank r ⌝ }
 {
-    let Due::Word(w) = reader::word_due(card, at) else {
-        return Verdict::Broken(Rule::WordNotDue, card.len());
-    };
+    [0u32; 4096]
+}
+
+// The word w at a place, as the read of a node in graph g.
+fn read_word(w: u32, at: usize, g: usize) -> Verdict
+    ensures { λ r. ⌜ ReadWord w at g r ⌝ }
+{
     if word32::kind(w) != 3 {
         return Verdict::Broken(Rule::WordNotDue, at);
     }
@@ -32,6 +39,16 @@ fn check_read(card: &[u32], g: usize, at: usize) -> Verdict
         return Verdict::Broken(Rule::ReadNotBelow, at);
     }
     Verdict::Sound
+}
+
+// The read of a node in graph g, from what was due.
+fn check_read(due: Due, g: usize) -> Verdict
+    ensures { λ r. ⌜ ReadTold due g r ⌝ }
+{
+    match due {
+        Due::Word(w, at) => read_word(w, at, g),
+        Due::End(len) => Verdict::Broken(Rule::WordNotDue, len),
+    }
 }
 
 // Whether exit e of local node k is no constant and no later node of a graph of n nodes.
@@ -48,22 +65,17 @@ fn is_misplaced(n: usize, k: usize, e: usize) -> bool
     n + 2 <= e
 }
 
-// The exits of local node k, due at a place.
-fn check_exits(card: &[u32], n: usize, k: usize, at: usize) -> Exits
+// The word w at a place, as the exits of local node k in a graph of n nodes.
+fn exits_word(w: u32, at: usize, n: usize, k: usize) -> Exits
     requires { ⌜ (n ≤ 4096) × (k < n) ⌝ }
-    ensures { λ r. ⌜ r ≡ exitsTold (exitsVerdict (now (card .entry)) n k at) (word (now (card .entry)) at) ⌝ }
+    ensures { λ r. ⌜ ExitsWord w at n k r ⌝ }
 {
-    let Due::Word(w) = reader::word_due(card, at) else {
-        return Exits::Bad(Rule::WordNotDue, card.len());
-    };
-    let kind = word32::kind(w);
-    let spare = word32::exits_spare(w);
     let e0 = word32::exit0(w);
     let e1 = word32::exit1(w);
-    if kind != 4 {
+    if word32::kind(w) != 4 {
         return Exits::Bad(Rule::WordNotDue, at);
     }
-    if spare != 0 {
+    if word32::exits_spare(w) != 0 {
         return Exits::Bad(Rule::StrayBit, at);
     }
     if is_misplaced(n, k, e0) {
@@ -75,9 +87,20 @@ fn check_exits(card: &[u32], n: usize, k: usize, at: usize) -> Exits
     Exits::Both(e0, e1)
 }
 
+// The exits of local node k in a graph of n nodes, from what was due.
+fn read_exits(due: Due, n: usize, k: usize) -> Exits
+    requires { ⌜ (n ≤ 4096) × (k < n) ⌝ }
+    ensures { λ r. ⌜ ExitsOf due n k r ⌝ }
+{
+    match due {
+        Due::Word(w, at) => exits_word(w, at, n, k),
+        Due::End(len) => Exits::Bad(Rule::WordNotDue, len),
+    }
+}
+
 // The local node that an exit names, if any, is set to 1 in the table.
-fn name_exit(table: &mut [u32], e: usize)
-    requires { ⌜ e < length (now table) + 2 ⌝ }
+fn name_exit(table: &mut Named, e: usize)
+    requires { ⌜ e < 4098 ⌝ }
     ensures { λ _. ⌜ now (table .exit) ≡ nameExit e (now (table .entry)) ⌝ }
 {
     if e <= 1 {
@@ -86,15 +109,12 @@ fn name_exit(table: &mut [u32], e: usize)
     table[e - 2] = 1;
 }
 
-// Local node k of graph g, whose header stands at p and has n nodes; what its exits name goes into the table.
-fn check_node(card: &[u32], g: usize, p: usize, n: usize, k: usize, table: &mut [u32]) -> Verdict
-    requires { ⌜ (p ≤ 9216) × (n ≤ 4096) × (k < n) × (n ≤ length (now table)) ⌝ }
-    ensures { λ r. ⌜ NodeTold (now (card .entry)) g p n k (now (table .entry)) (now (table .exit)) r ⌝ }
+// The exits of local node k in a graph of n nodes, from what was due; what they name goes into the table.
+fn check_exits(due: Due, n: usize, k: usize, table: &mut Named) -> Verdict
+    requires { ⌜ (n ≤ 4096) × (k < n) ⌝ }
+    ensures { λ r. ⌜ ExitsTold due n k (now (table .entry)) (now (table .exit)) r ⌝ }
 {
-    if let Verdict::Broken(rule, position) = check_read(card, g, p + 1 + 2 * k) {
-        return Verdict::Broken(rule, position);
-    }
-    match check_exits(card, n, k, p + 2 + 2 * k) {
+    match read_exits(due, n, k) {
         Exits::Bad(rule, position) => Verdict::Broken(rule, position),
         Exits::Both(e0, e1) => {
             name_exit(table, e0);
@@ -104,23 +124,29 @@ fn check_node(card: &[u32], g: usize, p: usize, n: usize, k: usize, table: &mut 
     }
 }
 
-// The nodes of graph g. The table, all 0 at first, then has 1 for each local node that an exit names.
-pub fn check_nodes(card: &[u32], g: usize, p: usize, n: usize, table: &mut [u32]) -> Verdict
-    requires { ⌜ (p ≤ 9216) × (n ≤ 4096) × (n ≤ length (now table)) × Names (now card) p n 0 (now table) ⌝ }
-    ensures { λ r. ⌜ (r ≡ nodesVerdict (now (card .entry)) g p n n 0) × (r ≡ Sound → Names (now (card .entry)) p n n (now (table .exit))) ⌝ }
+// The n nodes of graph g, from where the reader stands, just after the header. The table, blank at first, then has the local nodes that exits name.
+pub fn check_nodes<'s, 'a>(r: &'s mut Reader<'a>, g: usize, n: usize, table: &mut Named) -> Verdict
+    requires { ⌜ (n ≤ 4096) × (0 < now r .at) × Blank (now table) ⌝ }
+    ensures { λ v. ⌜ NodesTold (now (now (r .entry) .words)) (now (r .entry) .at - 1) g n (now (table .exit)) (now (r .exit) .at) v
+        × (now (r .exit) .words ≡ now (r .entry) .words) ⌝ }
 {
     let mut k = 0;
     while k < n {
-        if let Verdict::Broken(rule, position) = check_node(card, g, p, n, k, table) {
-            return Verdict::Broken(rule, position);
-        }
-        k += 1;
+        let read = check_read(reader::next(r), g);
+        let Verdict::Sound = read else {
+            return read;
+        };
+        let exits = check_exits(reader::next(r), n, k, table);
+        let Verdict::Sound = exits else {
+            return exits;
+        };
+        k = k + 1;
     }
     Verdict::Sound
 }
 
 // Whether one of the table's places 1 to n - 1 is 0.
-pub fn has_unnamed(table: &[u32], n: usize) -> bool
+fn has_unnamed(table: &[u32], n: usize) -> bool
     requires { ⌜ n ≤ length (now table) ⌝ }
     ensures { λ r. ⌜ r ≡ zeroAfter (now (table .entry)) (n - 1) ⌝ }
 {
@@ -132,4 +158,14 @@ pub fn has_unnamed(table: &[u32], n: usize) -> bool
         i += 1;
     }
     false
+}
+
+// Whether a local node of a graph of n nodes is not named, by the table that `check_nodes` left; and the table is blank again.
+pub fn take_unnamed(table: &mut Named, n: usize) -> bool
+    requires { ⌜ n ≤ 4096 ⌝ }
+    ensures { λ r. ⌜ UnnamedTold n (now (table .entry)) (now (table .exit)) r ⌝ }
+{
+    let unnamed = has_unnamed(table, n);
+    lists::fill(table, n, 0);
+    unnamed
 }

@@ -1,5 +1,5 @@
 -- What a caller learns of the words from what was due. Assumes nothing.
-use Prim.Native.Nat.{ℕ, _<_, _≤_}
+use Prim.Native.Nat.{ℕ, _+_, _<_, _≤_}
 use mathlib.Core.Path.{_≡_}
 use mathlib.Core.List.{List}
 use native.Mathlib.Omega.{arith}
@@ -7,20 +7,33 @@ use native.Mathlib.Decide.{decLt}
 use lib.ListN.{length, getD}
 use borrow.Author.Tests.{lt-ltb, le-ltb}
 use Rattle.reader.specs.declared.Due.the-variants.{Word, End}
-use Rattle.reader.specs.Due.{dueAt}
+use Rattle.reader.specs.Due.{dueAt, afterAt}
 
 -- a word was due: the position is one of the list's, and the word stands there
-pub due-word : (ws : List ℕ) (p w : ℕ) → dueAt ws p ≡ Word w → (p < length ws) × (w ≡ getD ws p 0)
+pub due-word : (ws : List ℕ) (p w at : ℕ) → dueAt ws p ≡ Word w at → (p < length ws) × (w ≡ getD ws p 0) × (at ≡ p)
 unfolding dueAt
-due-word ws p w e = elim (decLt p (length ws)) [
-  | yes h ↦ (h, cc (simp (lt-ltb p (length ws) h) at e))
+due-word ws p w at e = elim (decLt p (length ws)) [
+  | yes h ↦ (h, cc (simp (lt-ltb p (length ws) h) at e), cc (simp (lt-ltb p (length ws) h) at e))
   | no n ↦ let z : _≡_ {A = ℕ} 0 1 = cc (simp (le-ltb p (length ws) (omega arith)) at e) in absurd (omega arith)
 ]
 
--- the end was due: the list does not reach the position
-pub due-end : (ws : List ℕ) (p : ℕ) → dueAt ws p ≡ End → length ws ≤ p
+-- the end was due: the list does not reach the position, and its length is told
+pub due-end : (ws : List ℕ) (p n : ℕ) → dueAt ws p ≡ End n → (length ws ≤ p) × (n ≡ length ws)
 unfolding dueAt
-due-end ws p e = elim (decLt p (length ws)) [
+due-end ws p n e = elim (decLt p (length ws)) [
   | yes h ↦ let z : _≡_ {A = ℕ} 0 1 = cc (simp (lt-ltb p (length ws) h) at e) in absurd (omega arith)
-  | no n ↦ omega arith
+  | no out ↦ (omega arith, cc (simp (le-ltb p (length ws) (omega arith)) at e))
+]
+
+-- a step from a position that has a word goes one on
+pub after-word : (ws : List ℕ) (p : ℕ) → p < length ws → afterAt ws p ≡ p + 1
+unfolding afterAt
+after-word ws p h = simp (lt-ltb p (length ws) h)
+
+-- THE POSITION NEVER FALLS
+pub after-le : (ws : List ℕ) (p : ℕ) → p ≤ afterAt ws p
+unfolding afterAt
+after-le ws p = elim (decLt p (length ws)) [
+  | yes h ↦ rw (lt-ltb p (length ws) h) (omega arith)
+  | no n ↦ rw (le-ltb p (length ws) (omega arith)) (omega arith)
 ]

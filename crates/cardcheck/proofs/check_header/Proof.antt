@@ -7,17 +7,23 @@ use Rattle.cardcheck.proofs.check_header.Tie as tie
 
 returns : tie.Need-returns
 unfolding headerVerdict
-returns c = rw (le-leb _ _ (c .before .before .if1 .taken))
+returns c =
+    let at-start = c .before .before in
+    rw (le-leb _ _ (c .if1 .taken), at-start .pre .0)
 
 returns-2 : tie.Need-returns-2
 unfolding headerVerdict
-returns-2 c = rw (lt-leb _ _ (c .before .before .before .if1 .left), ← c .before .before .kind .ensures, eq-eqb _ _ (c .before .if2 .taken)) (c .check-input .ensures)
+returns-2 c =
+    let at-kind = c .before .before in
+    rw (lt-leb _ _ (at-kind .before .if1 .left), ← at-kind .kind .ensures, eq-eqb _ _ (c .before .if2 .taken)) (c .check-input .ensures)
 
 returns-3 : tie.Need-returns-3
 unfolding headerVerdict
-returns-3 c = rw (lt-leb _ _ (c .before .before .before .if1 .left), ne-eqb _ _ (rw (c .before .before .kind .ensures) at (c .before .if2 .left))) (c .check-output .ensures)
+returns-3 c =
+    let at-kind = c .before .before in
+    rw (lt-leb _ _ (at-kind .before .if1 .left), ne-eqb _ _ (rw (at-kind .kind .ensures) at (c .before .if2 .left))) (c .check-output .ensures)
 
 pub check-header-spec : {M : Type 1} → statement M
 check-header-spec =
     tie.close
-    (tie.spec (λ c. search needs) (λ c. search needs) returns (λ c κs. search needs) (λ c κs. search needs) returns-2 (λ c κs. search needs) returns-3)
+    (tie.spec returns (λ c κs. search needs) (λ c κs. search needs) returns-2 (λ c κs. search needs) returns-3)

@@ -5,14 +5,18 @@ use Rattle.cardcheck.proofs.check_input.Statement.{statement}
 use Rattle.cardcheck.proofs.check_input.Tie as tie
 
 returns : tie.Need-returns
-returns c = simp (lt-ltb _ _ (c .if1 .taken))
+returns c =
+    let at-start = c .before .before in
+    rw (lt-ltb _ _ (c .if1 .taken), at-start .pre .0)
 
 returns-2 : tie.Need-returns-2
-returns-2 c = rw (le-ltb _ _ (c .before .before .if1 .left), ← c .before .input-spare .ensures, ne-eqb _ _ (c .if2 .taken))
+returns-2 c =
+    let at-if-1 = c .before .before in
+    let at-start = at-if-1 .before .before in
+    rw (le-ltb _ _ (at-if-1 .if1 .left), ← c .before .input-spare .ensures, ne-eqb _ _ (c .if2 .taken), at-start .pre .0)
 
 returns-3 : tie.Need-returns-3
 returns-3 c = rw (le-ltb _ _ (c .before .before .if1 .left), ← c .before .input-spare .ensures, eq-eqb _ _ (c .if2 .left))
 
 pub check-input-spec : {M : Type 1} → statement M
-check-input-spec =
-    tie.close (tie.spec (λ c. search needs) (λ c. search needs) returns (λ c κs. search needs) returns-2 returns-3)
+check-input-spec = tie.close (tie.spec returns (λ c κs. search needs) returns-2 returns-3)

@@ -1,55 +1,49 @@
 -- `nodecheck::check_exits` meets its contract. Assumes nothing.
 use mathlib.Core.Path.{sym, _∙_}
-use borrow.Author.Tests.{le-leb, lt-leb, eq-eqb, ne-eqb}
+use native.Mathlib.Omega.{arith}
 use borrow.Author.Needs.{needs}
-use Rattle.reader.proofs.Laws.{due-word, due-end}
-use Rattle.form.specs.Check.{exitsVerdict}
-use Rattle.nodecheck.specs.Table.{exitsTold}
+use Rattle.answers.proofs.Tests.{not-sound}
+use Rattle.form.proofs.Verdicts.{exits-inside}
+use Rattle.nodecheck.proofs.Table.{both-sound, bad-broken, listOf, placeOf, some-list}
 use Rattle.nodecheck.proofs.check_exits.Statement.{statement}
 use Rattle.nodecheck.proofs.check_exits.Tie as tie
 
+name-exit-requires : tie.Need-name-exit-requires
+name-exit-requires c κs =
+    let at-e-0 = c .before .before in
+    let at-read = at-e-0 .before .before in
+    let d = at-read .before .args .due in
+    let v = both-sound _ _ _ _ (sym (at-read .read-exits .ensures (listOf d) (placeOf d) (some-list d)) ∙ at-e-0 .e0 .given .1) in
+    omega (arith, exits-inside (listOf d) _ _ (placeOf d) 0 (v .0), v .1, at-read .before .pre)
+
+name-exit-requires-2 : tie.Need-name-exit-requires-2
+name-exit-requires-2 c κs =
+    let at-e-0 = c .before .before .before .before in
+    let at-read = at-e-0 .before .before in
+    let d = at-read .before .args .due in
+    let v = both-sound _ _ _ _ (sym (at-read .read-exits .ensures (listOf d) (placeOf d) (some-list d)) ∙ at-e-0 .e0 .given .1) in
+    omega (arith, exits-inside (listOf d) _ _ (placeOf d) 1 (v .0), v .2, at-read .before .pre)
+
 returns : tie.Need-returns
-unfolding exitsVerdict exitsTold
 returns c =
-    let h = due-end _ _ (sym (c .before .before .word-due .ensures) ∙ c .enum-told .given .1) in
-    rw (le-leb _ _ h)
+    let at-read = c .before .before .before in
+    record {
+      verdict = λ ws p e. sym (bad-broken _ _ _ _ (sym (at-read .read-exits .ensures ws p e) ∙ c .before .rule .given .1));
+      table = λ ws p e z. absurd (not-sound _ _ z);
+    }
 
 returns-2 : tie.Need-returns-2
-unfolding exitsVerdict exitsTold
 returns-2 c =
-    let at-w = c .before .before .before .before .before .before in
-    let (h, e) = due-word _ _ _ (sym (at-w .before .before .word-due .ensures) ∙ at-w .w .given .1) in
-    rw (lt-leb _ _ h, ← e, ← c .before .before .before .before .kind .ensures, ne-eqb _ _ (c .if1 .taken))
-
-returns-3 : tie.Need-returns-3
-unfolding exitsVerdict exitsTold
-returns-3 c =
-    let at-w = c .before .before .before .before .before .before .before in
-    let (h, e) = due-word _ _ _ (sym (at-w .before .before .word-due .ensures) ∙ at-w .w .given .1) in
-    rw (lt-leb _ _ h, ← e, ← c .before .before .before .before .before .kind .ensures, eq-eqb _ _ (c .before .if1 .left), ← c .before .before .before .before .exits-spare .ensures, ne-eqb _ _ (c .if2 .taken))
-
-returns-4 : tie.Need-returns-4
-unfolding exitsVerdict exitsTold
-returns-4 c =
-    let at-kind = c .before .before .before .before .before .before .before in
-    let (h, e) = due-word _ _ _ (sym (at-kind .before .before .before .before .word-due .ensures) ∙ at-kind .before .before .w .given .1) in
-    rw (lt-leb _ _ h, ← e, ← at-kind .kind .ensures, eq-eqb _ _ (c .before .before .before .if1 .left), ← c .before .before .before .before .before .before .exits-spare .ensures, eq-eqb _ _ (c .before .before .if2 .left), ← c .before .before .before .before .before .exit0 .ensures, ← c .before .is-misplaced .ensures, c .if3 .taken)
-
-returns-5 : tie.Need-returns-5
-unfolding exitsVerdict exitsTold
-returns-5 c =
-    let at-exit-0 = c .before .before .before .before .before .before .before in
-    let (h, e) = due-word _ _ _ (sym (at-exit-0 .before .before .before .before .before .before .word-due .ensures) ∙ at-exit-0 .before .before .before .before .w .given .1) in
-    rw (lt-leb _ _ h, ← e, ← at-exit-0 .before .before .kind .ensures, eq-eqb _ _ (c .before .before .before .before .before .if1 .left), ← at-exit-0 .before .exits-spare .ensures, eq-eqb _ _ (c .before .before .before .before .if2 .left), ← at-exit-0 .exit0 .ensures, ← c .before .before .before .is-misplaced .ensures, c .before .before .if3 .left, ← c .before .before .before .before .before .before .exit1 .ensures, ← c .before .is-misplaced2 .ensures, c .if4 .taken)
-
-returns-6 : tie.Need-returns-6
-unfolding exitsVerdict exitsTold
-returns-6 c =
-    let at-exit-0 = c .before .before .before .before .before .before .before in
-    let (h, e) = due-word _ _ _ (sym (at-exit-0 .before .before .before .before .before .before .word-due .ensures) ∙ at-exit-0 .before .before .before .before .w .given .1) in
-    rw (lt-leb _ _ h, ← e, ← at-exit-0 .before .before .kind .ensures, eq-eqb _ _ (c .before .before .before .before .before .if1 .left), ← at-exit-0 .before .exits-spare .ensures, eq-eqb _ _ (c .before .before .before .before .if2 .left), ← at-exit-0 .exit0 .ensures, ← c .before .before .before .is-misplaced .ensures, c .before .before .if3 .left, ← c .before .before .before .before .before .before .exit1 .ensures, ← c .before .is-misplaced2 .ensures, c .if4 .left) (rw (at-exit-0 .exit0 .ensures, c .before .before .before .before .before .before .exit1 .ensures))
+    let at-e-0 = c .before .before .before .before .before in
+    let at-read = at-e-0 .before .before in
+    record {
+      verdict = λ ws p e. sym (both-sound _ _ _ _ (sym (at-read .read-exits .ensures ws p e) ∙ at-e-0 .e0 .given .1) .0);
+      table = λ ws p e z.
+          let v = both-sound _ _ _ _ (sym (at-read .read-exits .ensures ws p e) ∙ at-e-0 .e0 .given .1) in
+          c .name-exit2 .ensures ∙ rw (c .before .before .name-exit .ensures, v .1, v .2);
+    }
 
 pub check-exits-spec : {M : Type 1} → statement M
 check-exits-spec =
     tie.close
-    (tie.spec (λ c κs. search needs) (λ c. search needs) (λ c. search needs) returns (λ c κs. search needs) (λ c κs. search needs) (λ c κs. search needs) (λ c κs. search needs) returns-2 returns-3 (λ c κs. search needs) returns-4 (λ c κs. search needs) returns-5 returns-6)
+    (tie.spec (λ c κs. search needs) (λ c. search needs) (λ c. search needs) name-exit-requires name-exit-requires-2 returns returns-2)

@@ -12,4 +12,4 @@ returns-2 c = name-one _ _ (c .if1 .left)
 
 pub name-exit-spec : {M : Type 1} → statement M
 name-exit-spec =
-    tie.close (tie.spec returns (λ c. search needs) (λ c. search needs) (λ c. search needs) (λ c. search needs) returns-2)
+    tie.close (tie.spec returns (λ c. search needs) (λ c. search needs) (λ c. search needs) returns-2)

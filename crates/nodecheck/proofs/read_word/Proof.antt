@@ -1,0 +1,35 @@
+-- `nodecheck::read_word` meets its contract. Assumes nothing.
+use borrow.Author.Tests.{le-leb, lt-leb, eq-eqb, ne-eqb}
+use borrow.Author.Needs.{needs}
+use Rattle.form.specs.Check.{readVerdict}
+use Rattle.nodecheck.proofs.read_word.Statement.{statement}
+use Rattle.nodecheck.proofs.read_word.Tie as tie
+
+returns : tie.Need-returns
+unfolding readVerdict
+returns c = λ ws h e. rw (lt-leb _ _ h, ← e, ← c .before .kind .ensures, ne-eqb _ _ (c .if1 .taken))
+
+returns-2 : tie.Need-returns-2
+unfolding readVerdict
+returns-2 c = λ ws h e.
+    let at-if-1 = c .before .before in
+    rw (lt-leb _ _ h, ← e, ← at-if-1 .before .kind .ensures, eq-eqb _ _ (at-if-1 .if1 .left), ← c .before .read-spare .ensures, ne-eqb _ _ (c .if2 .taken))
+
+returns-3 : tie.Need-returns-3
+unfolding readVerdict
+returns-3 c = λ ws h e.
+    let at-if-2 = c .before .before in
+    let at-if-1 = at-if-2 .before .before in
+    rw (lt-leb _ _ h, ← e, ← at-if-1 .before .kind .ensures, eq-eqb _ _ (at-if-1 .if1 .left), ← at-if-2 .before .read-spare .ensures, eq-eqb _ _ (at-if-2 .if2 .left), ← c .before .read-graph .ensures, le-leb _ _ (c .if3 .taken))
+
+returns-4 : tie.Need-returns-4
+unfolding readVerdict
+returns-4 c = λ ws h e.
+    let at-if-2 = c .before .before in
+    let at-if-1 = at-if-2 .before .before in
+    rw (lt-leb _ _ h, ← e, ← at-if-1 .before .kind .ensures, eq-eqb _ _ (at-if-1 .if1 .left), ← at-if-2 .before .read-spare .ensures, eq-eqb _ _ (at-if-2 .if2 .left), ← c .before .read-graph .ensures, lt-leb _ _ (c .if3 .left))
+
+pub read-word-spec : {M : Type 1} → statement M
+read-word-spec =
+    tie.close
+    (tie.spec (λ c κs. search needs) returns (λ c κs. search needs) returns-2 (λ c κs. search needs) returns-3 returns-4)
