@@ -1,3 +1,4 @@
--- The turns of the check's loop.
+-- The turns of the check's loop, and where it stands.
 
+mod Graphs
 mod Turns

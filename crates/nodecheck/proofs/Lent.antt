@@ -11,7 +11,7 @@ use mir.Val.{vptr}
 use base.Fml.{GName, Lft, Share, Fml, flft, fres}
 use prog.Wp.{Heap}
 use ghost.Atoms.{Atoms}
-use types.Kit.{Given, Item, Goal, Soaks, Seq, Step, step, ‵, _⊛_, some, later, _$_, move, use2, use3, split, join, pick, await}
+use types.Kit.{Given, Item, Goal, Soaks, Seq, Step, step, ‵, _⊛_, some, later, _$_, move, use2, use3, split, pick, await}
 use types.Tokens.{lft-new, lft-end}
 use denote.RattleType.{RattleType}
 use denote.Ref.{RefT, MutRef}

@@ -6,7 +6,7 @@ use native.Mathlib.Omega.{arith}
 use native.Mathlib.Numerals.{add-one}
 use Rattle.answers.specs.declared.Rule.{Rule}
 use Rattle.answers.specs.declared.Verdict.the-variants.{Sound, Broken}
-use Rattle.form.specs.Check.{readVerdict, exitsVerdict, nodeVerdict, nodesVerdict}
+use Rattle.form.specs.Check.{readVerdict, exitsVerdict, nodesVerdict}
 
 -- the nodes from k on
 module _ (ws : List ℕ) (g p n k : ℕ) where

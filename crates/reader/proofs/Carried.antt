@@ -48,13 +48,12 @@ use mir.Syntax.{
 }
 use mir.Val.{Val, WT, hasTy, vint, vptr}
 use base.Logic.{SProp, ent, snd∗, exE, id⊢}
-use base.Fml.{GName, Lft, Share, Fml, Incl, ftrue, fsep, fat, flft, fdead, fres, flent}
+use base.Fml.{GName, Lft, Share, Fml, ftrue, fsep, fat, flft, fdead, fres, flent}
 use prog.Memory.{Memory}
 use prog.Routine.{Routine}
 use prog.Wp.{Heap, Env, Calls, Loops}
 use ghost.Atoms.{Atoms, sem}
 use contract.BorrowLft.{meet-⊑-right}
-use contract.Lifetimes.{AllOutlive}
 use contract.Monad.{Fun, fact}
 use types.Kit.{
   Given,
@@ -82,28 +81,25 @@ use types.Kit.{
   qed,
   by,
   move,
-  keep,
   drop,
   use1,
   use2,
   use3,
   split,
   join,
-  learn,
   pick,
   rewrite,
   fsplit,
   fjoin,
   fpick,
   fpack,
-  suffices,
   frame,
   await,
   done,
 }
 use types.Run.{Opds}
 use types.SemTy.{Body}
-use types.Tokens.{lft-new, lft-end}
+use types.Tokens.{lft-new}
 use sound.WpLaws.{FmC}
 use borrow.Within.Token.{Rest, within-token, within-end}
 use denote.RattleType.{RattleType}

@@ -1,13 +1,11 @@
 -- `cardcheck::check_words` meets its contract: a walk of its MIR, by hand. One reader, in a local, goes from the first word to the last: each turn
 -- of the
 -- loop asks it for a header, lends it with the table to `check_nodes`, and closes the graph; a turn that is over returns its answer.
--- The invariant (`Going`): the answer from the place due on is the answer from the start, the reader stands at the place due, the graphs read so
--- far have
--- the shape of an accepted card, and the table is blank. All that is known of the callees is that each meets its contract. Assumes nothing.
-use mathlib.Core.Path.{_≡_, refl, sym, ap, _∙_, subst}
-use Prim.Native.Nat.{ℕ, _+_, _-_, _*_, _<_, _≤_, _^_}
+-- Where the loop stands, with its invariant, is Graphs.antt's `Going`. All that is known of the callees is that each meets its contract. Assumes
+-- nothing.
+use mathlib.Core.Path.{_≡_, refl, ap, subst}
+use Prim.Native.Nat.{ℕ, _-_, _<_, _≤_, _^_}
 use mathlib.Core.WellFounded.{WellFounded, InvImage·wf}
-use lib.WfN.{Nat·lt-wfRel}
 use mathlib.Core.List.{List, [], _∷_}
 use native.Mathlib.Omega.{arith}
 use lib.Dec.{T as Holds, lit<}
@@ -137,7 +135,6 @@ use Rattle.reader.specs.declared.Reader.{Reader}
 use Rattle.reader.proofs.Due as S
 use Rattle.reader.proofs.Due.Laws as S′
 use Rattle.reader.proofs.Carried.{B, rd, mach, ref, Next, New, Held, Stands, steps, begins, lends, home, envOf, tyOf, rest-of, second-arm}
-use Rattle.reader.proofs.Laws.{due-word, after-word}
 use Rattle.reader.proofs.new.Symbol as new-def
 use Rattle.reader.proofs.new.Symbol.{name as #reader·new}
 use Rattle.reader.proofs.new.Met as new-thm
@@ -147,24 +144,20 @@ use Rattle.reader.proofs.next.Met as next-thm
 use Rattle.answers.specs.declared.Counts.{Counts}
 use Rattle.answers.specs.declared.Answer.{Answer}
 use Rattle.answers.specs.declared.Verdict.{Verdict}
-use Rattle.answers.specs.declared.Verdict.the-variants.{Sound}
 use Rattle.answers.proofs.Answer as An
 use Rattle.answers.proofs.Answer.Laws as An′
 use Rattle.answers.proofs.Counts as Ct
 use Rattle.answers.proofs.Counts.Laws as Ct′
 use Rattle.answers.proofs.Verdict as Vd
 use Rattle.answers.proofs.Verdict.Laws as Vd′
-use Rattle.form.specs.Check.{counts, word, place, withGraph, graphVerdict, nodesVerdict, rest}
-use Rattle.form.proofs.Verdicts.{header-few}
-use Rattle.form.proofs.Checked.{few-observable, none-read, graph-step}
-use Rattle.layout.specs.Shape.{Shape}
-use Rattle.nodecheck.specs.Table.{Blank, Names, NodesTold}
+use Rattle.form.specs.Check.{counts}
+use Rattle.nodecheck.specs.Table.{Blank, NodesTold}
 use Rattle.nodecheck.proofs.Lent.{at-value, Owns, Mine, lends-on, comes-home}
 use Rattle.nodecheck.proofs.check_nodes as nodes
 use Rattle.nodecheck.proofs.check_nodes.Symbol as nodes-def
 use Rattle.nodecheck.proofs.check_nodes.Symbol.{name as #nodecheck·check-nodes}
 use Rattle.nodecheck.proofs.check_nodes.Met as nodes-thm
-use Rattle.cardcheck.specs.Graph.{Few, AtPlace, Opened, OpeningTold, NodesRead, GraphTold}
+use Rattle.cardcheck.specs.Graph.{Few, AtPlace, Opened, OpeningTold, GraphTold}
 use Rattle.cardcheck.specs.declared.Header.{Header}
 use Rattle.cardcheck.specs.declared.Opening.{Opening}
 use Rattle.cardcheck.specs.declared.Opening.the-variants as opening
@@ -176,7 +169,22 @@ use Rattle.cardcheck.proofs.Opening as Op
 use Rattle.cardcheck.proofs.Opening.Laws as Op′
 use Rattle.cardcheck.proofs.Graph as Gr
 use Rattle.cardcheck.proofs.Graph.Laws as Gr′
-use Rattle.cardcheck.proofs.Turns.{rest-go}
+use Rattle.cardcheck.proofs.Graphs.{
+  all,
+  Going,
+  Nearer,
+  Nearer-wf,
+  begin,
+  few,
+  here,
+  may-open,
+  over-now,
+  few-nodes,
+  next-at,
+  over-then,
+  onward,
+  nearer,
+}
 use Rattle.cardcheck.proofs.open_graph as open-graph
 use Rattle.cardcheck.proofs.open_graph.Symbol as open-def
 use Rattle.cardcheck.proofs.open_graph.Symbol.{name as #cardcheck·open-graph}
@@ -235,9 +243,6 @@ module _ {M : Type 1} (𝓤 : URA M) (H : Heap 𝓤) (A : Atoms 𝓤) (W : Given
   abbrev Post : Val → SProp 𝓤
   Post = walkOf 𝓤 H A cw.ended stayed (cw.clauses 𝓤 H A mem run) .post (((κ, (κt, tt)), (q, (qt, tt)), tt, args, vals), tt)
 
-  abbrev all : Answer
-  all = rest ws extra 1025 (counts 0 0 0 0)
-
   -- that a value of a declared type is one, and then its machine value has the type
   abbrev IsDue : Due → Type 0
   IsDue d = Is S.the-row d (S′.lowered d ∷ [])
@@ -270,7 +275,7 @@ module _ {M : Type 1} (𝓤 : URA M) (H : Heap 𝓤) (A : Atoms 𝓤) (W : Given
   answer-is a vs is = subst (Is An.the-row a) (An′.lowers .val-is a vs is) is
 
   -- the body returns a, with the reader at m and the table zs
-  exits-at : (a : Answer) (m : ℕ) (zs : List ℕ) → IsAnswer a → a ≡ all → ent 𝓤
+  exits-at : (a : Answer) (m : ℕ) (zs : List ℕ) → IsAnswer a → a ≡ all ws extra → ent 𝓤
       (⋆ 𝓤 H A ((‵ (B κ .own (rd x m) (mach x m ∷ [])) ⊛ ‵ (flft κ q)) ∷ Tab zs ∷ ‵ Own ∷ [])) (Post (An′.lowered a))
   exits-at a m zs is e =
       qed W ((‵ (B κ .own (rd x m) (mach x m ∷ [])) ⊛ ‵ (flft κ q)) ∷ Tab zs ∷ ‵ Own ∷ []) ∵
@@ -352,23 +357,6 @@ module _ {M : Type 1} (𝓤 : URA M) (H : Heap 𝓤) (A : Atoms 𝓤) (W : Given
       owned ! Vd.the-row (Is Vd.the-row) (EL.makes Vd.the-type Vd′.the-plain 𝓤 H A) r _ isr $ fjoin ! $
       owned ! Hd.the-row (Is Hd.the-row) (SL.makes Hd.the-type Hd′.the-plain 𝓤 H A) h _ ish $ fjoin ! $ move ! (1 ∷ 0 ∷ []) $ join ! $ done !
 
-  -- where the loop stands: the graphs that c counts are read, the reader is at p, and the table is tb
-  record Going : Type 0 where
-    c : Counts
-    p : ℕ
-    tb : List ℕ
-    is : IsCounts c
-    at : p ≡ place c
-    shape : Shape ws c
-    blanks : Blank tb
-    same : rest ws extra (1025 - c .graphs) c ≡ all
-
-  abbrev Nearer : Going → Going → Type 0
-  Nearer j i = 1025 - j .c .graphs < 1025 - i .c .graphs
-
-  Nearer-wf : WellFounded Nearer
-  Nearer-wf = InvImage·wf (λ (i : Going). 1025 - i .c .graphs) (Nat·lt-wfRel .wf)
-
   none-is : IsCounts (counts 0 0 0 0)
   none-is = SL.owes Ct.the-type Ct′.the-laws (counts 0 0 0 0) (
     (refl, lit< tt),
@@ -378,79 +366,19 @@ module _ {M : Type 1} (𝓤 : URA M) (H : Heap 𝓤) (A : Atoms 𝓤) (W : Given
     ),
   )
 
-  abbrev begin : Going
-  begin = record { c = counts 0 0 0 0; p = 0; tb = ys; is = none-is; at = refl; shape = none-read ws; blanks = blank; same = refl }
+  -- where the loop stands, and that its counts are in a local
+  record Stand : Type 0 where
+    going : Going ws extra
+    is : IsCounts (going .c)
 
-  few : (i : Going) → Few (i .c)
-  few i = record {
-    inputs = omega (
-      arith,
-      i .shape .inputs-in,
-      i .shape .few-graphs,
-    );
-    graphs = i .shape .few-graphs;
-    nodes = i .shape .few-nodes;
-    observable = omega
-        (arith, few-observable (i .shape), i .shape .few-graphs);
-  }
+  abbrev Closer : Stand → Stand → Type 0
+  Closer j i = Nearer ws extra (j .going) (i .going)
 
-  -- what was due where the reader stands
-  module _ (i : Going) (d : Due) (ed : d ≡ dueAt ws (i .p)) where
-    here : d ≡ dueAt ws (place (i .c))
-    here = ed ∙ ap (dueAt ws) (i .at)
+  Closer-wf : WellFounded Closer
+  Closer-wf = InvImage·wf (λ (i : Stand). i .going) (Nearer-wf ws extra)
 
-    may-open : (i .c .nodes ≤ 4096) × AtPlace d (i .c)
-    may-open = (i .shape .few-nodes, λ w at e. due-word ws (place (i .c)) w at (sym here ∙ e) .2)
-
-    over-now : (r : Opening) → OpeningTold d (i .c) extra r → (a : Answer) → r ≡ opening.Over a → a ≡ all
-    over-now r told a e = told .over ws (i .shape) here a e ∙ i .same
-
-  -- a graph was opened with the header h, and its nodes told r, with the reader then at m and the table zs
-  module _ (i : Going) (h : Header) (o : Opened ws (i .c) h) where
-    few-nodes : h .nodes ≤ 4096
-    few-nodes =
-        let e : h .nodes ≡ _ = ap (λ (k : Header). k .nodes) (o .header) in
-        omega (arith, e, header-few (word ws (place (i .c))) (i .c) (i .shape .few-nodes) (o .sound))
-
-    next-at : afterAt ws (i .p) ≡ place (i .c) + 1
-    next-at = ap (afterAt ws) (i .at) ∙ after-word ws (place (i .c)) (o .inside)
-
-    module _ (r : Verdict) (z : Reader) (zs : List ℕ) (er : NodesSaid (afterAt ws (i .p)) (i .c .graphs) (h .nodes) r z zs) where
-      told-at : NodesTold ws (place (i .c)) (i .c .graphs) (h .nodes) zs (z .at) r
-      told-at =
-          let e : afterAt ws (i .p) - 1 ≡ place (i .c) = omega (arith, next-at) in
-          subst (λ (k : ℕ). NodesTold ws k (i .c .graphs) (h .nodes) zs (z .at) r) e (er .0)
-
-      nodes-read : NodesRead ws (i .c) h r zs
-      nodes-read = record { opened = o; verdict = told-at .verdict; names = told-at .names }
-
-      module _ (t : List ℕ) (g : Graph) (told : GraphTold h r (i .c) zs t g) where
-        over-then : (a : Answer) → g ≡ graph.Over a → a ≡ all
-        over-then a e = told .over ws extra (i .shape) nodes-read a e ∙ i .same
-
-        module _ (c′ : Counts) (isc : IsCounts c′) (e : g ≡ graph.Read c′) (good : r ≡ Sound) where
-          abbrev said : (graphVerdict ws (i .c) ≡ Sound) × (c′ ≡ withGraph (word ws (place (i .c))) (i .c)) × Blank t
-          said = told .read ws nodes-read c′ e
-
-          reached : z .at ≡ place c′
-          reached =
-              let n : h .nodes ≡ _ = ap (λ (k : Header). k .nodes) (o .header) in
-              told-at .next good ∙ rw (said .1) (omega (arith, n))
-
-          abbrev onward : Going
-          onward = record {
-            c = c′;
-            p = z .at;
-            tb = t;
-            is = isc;
-            at = reached;
-            shape = subst (Shape ws) (sym (said .1)) (graph-step ws (i .c) (i .shape) (o .inside) (said .0));
-            blanks = said .2;
-            same = ap (λ (k : Counts). rest ws extra (1025 - k .graphs) k) (said .1) ∙ sym (rest-go (i .shape) extra (o .inside) (said .0)) ∙ i .same;
-          }
-
-          nearer : Nearer onward i
-          nearer = rw (said .1) (omega (arith, i .shape .few-graphs))
+  abbrev start : Stand
+  start = record { going = begin ws extra ys blank; is = none-is }
 
   module _ (𝓣 : Tables 𝓤 H) (fm : FmC 𝓤 H (W .laws) (𝓣 .C)) (known-new : Triple 𝓤 (𝓣 .C #reader·new) (New 𝓤 H A mem run))
       (known-next : Triple 𝓤 (𝓣 .C #reader·next) (Next 𝓤 H A mem run)) (known-open : Triple 𝓤 (𝓣 .C #cardcheck·open-graph) (Open 𝓤 H A mem run))
@@ -484,11 +412,11 @@ module _ {M : Type 1} (𝓤 : URA M) (H : Heap 𝓤) (A : Atoms 𝓤) (W : Given
           (fdies (τ 3) l₃) ∷ ‵ (fat fullShare (τ 2) l₂ 0 (vint w64 extra)) ∷ ‵ (fdies (τ 2) l₂) ∷ ‵ (fat fullShare (τ 1) l₁ 0 v) ∷ ‵
           (fdies (τ 1) l₁) ∷ ‵ none ∷ ‵ (fdies (τ 0) l₀) ∷ []
 
-      abbrev At : Going → List (Item 𝓤)
-      At i = Cells (i .c) (i .p) (i .tb) (room 17 l₁₇) (room 14 l₁₄) (room 9 l₉) (room 8 l₈) (room 0 l₀)
+      abbrev At : Stand → List (Item 𝓤)
+      At i = Cells (i .going .c) (i .going .p) (i .going .tb) (room 17 l₁₇) (room 14 l₁₄) (room 9 l₉) (room 8 l₈) (room 0 l₀)
 
       -- the locals are freed, with the answer a in _0
-      leaves : (c : Counts) (m : ℕ) (zs : List ℕ) (a : Answer) → IsAnswer a → a ≡ all
+      leaves : (c : Counts) (m : ℕ) (zs : List ℕ) (a : Answer) → IsAnswer a → a ≡ all ws extra
           → Sq W (Cells c m zs (room 17 l₁₇) (room 14 l₁₄) (room 9 l₉) (room 8 l₈) (fat fullShare (τ 0) l₀ 0 (An′.lowered a)))
           (frees En (prop (Post (An′.lowered a))))
       leaves c m zs a is e =
@@ -500,8 +428,8 @@ module _ {M : Type 1} (𝓤 : URA M) (H : Heap 𝓤) (A : Atoms 𝓤) (W : Given
           move ! (7 ∷ 8 ∷ []) $ free1 ! $ move ! (5 ∷ 6 ∷ []) $ free1 ! $ move ! (3 ∷ 4 ∷ []) $ free1 ! $ free0 ! $
           by ! (exits-at a m zs is e)
 
-      abbrev Turned : Going → Out → SProp 𝓤
-      Turned i = afterTurn 𝓤 H (Below 𝓤 H A Nearer At i) (afterBlock 𝓤 H (afterSeq 𝓤 H (Wp 𝓤 H C Λ En pieces.t-5 (atReturn 𝓤 H En Post))
+      abbrev Turned : Stand → Out → SProp 𝓤
+      Turned i = afterTurn 𝓤 H (Below 𝓤 H A Closer At i) (afterBlock 𝓤 H (afterSeq 𝓤 H (Wp 𝓤 H C Λ En pieces.t-5 (atReturn 𝓤 H En Post))
           (atReturn 𝓤 H En Post)))
 
       -- the match on what is due; the arm of a graph, from after its nodes, and from the match on what it comes to
@@ -518,10 +446,10 @@ module _ {M : Type 1} (𝓤 : URA M) (H : Heap 𝓤) (A : Atoms 𝓤) (W : Given
       from-last = rest-of (rest-of from-close)
 
       -- the graph came to g
-      decided : (i : Going) (h : Header) (o : Opened ws (i .c) h) (r : Verdict) (z : Reader) (zs : List ℕ)
-          (er : NodesSaid (afterAt ws (i .p)) (i .c .graphs) (h .nodes) r z zs) (t : List ℕ) (g : Graph) → Is Gr.the-row g (Gr′.lowered g ∷ [])
-          → GraphTold h r (i .c) zs t g
-          → Sq W (Cells (i .c) (z .at) t (fat fullShare (τ 17) l₁₇ 0 (Gr′.lowered g)) (room 14 l₁₄) (room 9 l₉) (room 8 l₈) (room 0 l₀))
+      decided : (i : Stand) (h : Header) (o : Opened ws (i .going .c) h) (r : Verdict) (z : Reader) (zs : List ℕ)
+          (er : NodesSaid (afterAt ws (i .going .p)) (i .going .c .graphs) (h .nodes) r z zs) (t : List ℕ) (g : Graph) → Is Gr.the-row g
+          (Gr′.lowered g ∷ []) → GraphTold h r (i .going .c) zs t g
+          → Sq W (Cells (i .going .c) (z .at) t (fat fullShare (τ 17) l₁₇ 0 (Gr′.lowered g)) (room 14 l₁₄) (room 9 l₉) (room 8 l₈) (room 0 l₀))
           (runs C Λ En from-last (anyQ (Turned i)))
       unfolding afterTurn
       decided i h o r z zs er t (graph.Read d) is told =
@@ -533,8 +461,12 @@ module _ {M : Type 1} (𝓤 : URA M) (H : Heap 𝓤) (A : Atoms 𝓤) (W : Given
                   (from ! (stop !)) (init ! 17 refl (typed-c d isd)) $
                   assigns-last ! (of-opd ! (load ! (from ! (stop !)) (look ! 17 refl))) (from ! (stop !)) (store ! 29 refl (typed-c d isd)) $
                   forget ! 5 refl $ forget ! 17 refl $
-                  again ! Nearer At i (onward i h o r z zs er t (graph.Read d) told d isd refl (told .sound d refl))
-                  (nearer i h o r z zs er t (graph.Read d) told d isd refl (told .sound d refl))),
+                  again ! Closer At i (record {
+                    going = onward ws extra (i .going) h o r (z .at) zs (er .0) t (graph.Read d) told d refl
+                        (told .sound d refl);
+                    is = isd;
+                  }) (nearer ws extra (i .going) h o r (z .at) zs (er .0) t (graph.Read d) told d refl
+                  (told .sound d refl))),
               (λ y. absurd (y .1 refl)),
             ),
           )
@@ -545,31 +477,32 @@ module _ {M : Type 1} (𝓤 : URA M) (H : Heap 𝓤) (A : Atoms 𝓤) (W : Given
                 (from ! (stop !)) (init ! 19 refl (typed-a a isa)) $
                 assigns ! (of-opd ! (load ! (from ! (stop !)) (look ! 19 refl))) (from ! (stop !)) (init ! 38 refl (typed-a a isa)) $
                 returns-within ! Post refl (look ! 38 refl) $ forget ! 5 refl $ forget ! 19 refl $
-                leaves (i .c) (z .at) t a isa (over-then i h o r z zs er t (graph.Over a) told a refl)),
+                leaves (i .going .c) (z .at) t a isa (over-then ws extra (i .going) h o r (z .at) zs (er .0) t (graph.Over a) told a refl)),
             ((λ y. absurd (omega (arith, y))), (λ y. absurd (y .0 .1 refl))),
           )
 
       -- the nodes were told r: the graph is closed
-      closes : (i : Going) (h : Header) → IsHeader h → (o : Opened ws (i .c) h) (r : Verdict) → IsVerdict r → (z : Reader) (zs : List ℕ)
-          (er : NodesSaid (afterAt ws (i .p)) (i .c .graphs) (h .nodes) r z zs)
-          → Sq W (Cells (i .c) (z .at) zs (room 17 l₁₇) (room 14 l₁₄) (fat fullShare (τ 9) l₉ 0 (Vd′.lowered r))
+      closes : (i : Stand) (h : Header) → IsHeader h → (o : Opened ws (i .going .c) h) (r : Verdict) → IsVerdict r → (z : Reader) (zs : List ℕ)
+          (er : NodesSaid (afterAt ws (i .going .p)) (i .going .c .graphs) (h .nodes) r z zs)
+          → Sq W (Cells (i .going .c) (z .at) zs (room 17 l₁₇) (room 14 l₁₄) (fat fullShare (τ 9) l₉ 0 (Vd′.lowered r))
           (fat fullShare (τ 8) l₈ 0 (Hd′.lowered h)) (room 0 l₀)) (runs C Λ En from-close (anyQ (Turned i)))
       closes i h ish o r isr z zs er =
           assigns ! (addr ! (from ! (hop ! (look ! 32 refl) (stop !)))) (from ! (stop !)) (init ! 3 refl (tt, tt)) $
-          move ! (1 ∷ []) $ lends-on ! N (named 1) bt ot γt zs tt (λ ν δ. use2 W (raw (Close 𝓤 H A mem run .pre (to-close h r (i .c) ν δ zs)))
-          (asked-close h ish r isr (i .c) (i .is) (few-nodes i h o, few i) ν δ zs) $
+          move ! (1 ∷ []) $ lends-on ! N (named 1) bt ot γt zs tt (λ ν δ. use2 W (raw
+          (Close 𝓤 H A mem run .pre (to-close h r (i .going .c) ν δ zs)))
+          (asked-close h ish r isr (i .going .c) (i .is) (few-nodes ws extra (i .going) h o, few ws extra (i .going)) ν δ zs) $
           -- [what `close_graph` asks; what is kept of the table; the reader; what the words own; _18 4; …; _9 22; …; _8 24; …; _5 30; …]
-          calls-at ! fm (Close 𝓤 H A mem run) known-close (to-close h r (i .c) ν δ zs)
+          calls-at ! fm (Close 𝓤 H A mem run) known-close (to-close h r (i .going .c) ν δ zs)
           (and-then ! (load ! (from ! (stop !)) (look ! 24 refl)) (and-then ! (load ! (from ! (stop !)) (look ! 22 refl)) (and-then !
           (load ! (from ! (stop !)) (look ! 30 refl)) (and-then ! (load ! (from ! (stop !)) (look ! 4 refl)) (no-more !))))) (λ u.
           use1 W (later (some (λ (g : Graph). ((‵ (flft (ν ∷ []) fullShare) ⊛ ‵ ftrue) ⊛ ‵ (Gr.the-row .own g (u ∷ []))) ⊛ raw
           (ensured 𝓤 H A close-graph.ended (close-graph.clauses 𝓤 H A mem run) (ν ∷ [], tt)
-          (h, (r, (i .c, (at-value N bt ot δ zs, tt)))) tt g)))) (id⊢ 𝓤 _) $ await ! tt $ pick ! (λ g.
+          (h, (r, (i .going .c, (at-value N bt ot δ zs, tt)))) tt g)))) (id⊢ 𝓤 _) $ await ! tt $ pick ! (λ g.
           split ! $ move ! (1 ∷ []) $
           use1 W (some (λ (ts : Unit {0} × (Unit {0} × (Unit {0} × (List ℕ × Unit {0})))). ‵
-          (lasts close-graph.ended (ν ∷ [], tt) (h, (r, (i .c, (at-value N bt ot δ zs, tt)))) ts) ⊛ raw
-          (fact 𝓤 (GraphTold h r (i .c) zs (ts .1 .1 .1 .0) g)))) (id⊢ 𝓤 _) $ pick ! (λ ts.
-          split ! $ move ! (1 ∷ []) $ heard ! (GraphTold h r (i .c) zs (ts .1 .1 .1 .0) g) (λ told. fsplit ! $ drop ! $ fsplit ! $ drop ! $
+          (lasts close-graph.ended (ν ∷ [], tt) (h, (r, (i .going .c, (at-value N bt ot δ zs, tt)))) ts) ⊛ raw
+          (fact 𝓤 (GraphTold h r (i .going .c) zs (ts .1 .1 .1 .0) g)))) (id⊢ 𝓤 _) $ pick ! (λ ts.
+          split ! $ move ! (1 ∷ []) $ heard ! (GraphTold h r (i .going .c) zs (ts .1 .1 .1 .0) g) (λ told. fsplit ! $ drop ! $ fsplit ! $ drop ! $
           fsplit ! $ drop ! $ fsplit ! $ move ! (1 ∷ []) $ drop ! $
           -- [the table's last contents; the token and the result; what is kept of the table; the reader; what the words own; _18 5; …]
           move ! (1 ∷ []) $ split ! $ move ! (1 ∷ []) $ facts ! Gr.the-row (Is Gr.the-row) (shows 𝓤 H A Gr.the-row) g (u ∷ []) (λ isg.
@@ -581,39 +514,54 @@ module _ {M : Type 1} (𝓤 : URA M) (H : Heap 𝓤) (A : Atoms 𝓤) (W : Given
           decided i h o r z zs er (ts .1 .1 .1 .0) g (subst (Is Gr.the-row g) (Gr′.lowers .val-is g (u ∷ []) isg) isg) told))))))
 
       -- a graph was opened: its nodes are read
-      graph-read : (i : Going) (h : Header) → Is Op.the-row (opening.Graph h) (Op′.lowered (opening.Graph h) ∷ []) → Opened ws (i .c) h
-          → Sq W (Cells (i .c) (afterAt ws (i .p)) (i .tb) (room 17 l₁₇) (fat fullShare (τ 14) l₁₄ 0 (Op′.lowered (opening.Graph h))) (room 9 l₉)
-          (room 8 l₈) (room 0 l₀)) (runs C Λ En the-graph (anyQ (Turned i)))
+      graph-read : (i : Stand) (h : Header) → Is Op.the-row (opening.Graph h) (Op′.lowered (opening.Graph h) ∷ []) → Opened ws (i .going .c) h
+          → Sq W (Cells (i .going .c) (afterAt ws (i .going .p)) (i .going .tb) (room 17 l₁₇)
+          (fat fullShare (τ 14) l₁₄ 0 (Op′.lowered (opening.Graph h))) (room 9 l₉) (room 8 l₈) (room 0 l₀))
+          (runs C Λ En the-graph (anyQ (Turned i)))
       graph-read i h is o =
           let ish : IsHeader h = EL.owed Op.the-type Op′.the-laws (opening.Graph h) _ is .0 in
-          let g-fits : i .c .graphs < 2 ^ 64 = SL.owed Ct.the-type Ct′.the-laws (i .c) _ (i .is) .1 .0 .1 in
+          let g-fits : i .going .c .graphs < 2 ^ 64 = SL.owed Ct.the-type Ct′.the-laws (i .going .c) _ (i .is) .1 .0 .1 in
           let n-fits : h .nodes < 2 ^ 64 = SL.owed Hd.the-type Hd′.the-laws h _ ish .1 .1 .0 .1 in
-          let p = afterAt ws (i .p) in
+          let p = afterAt ws (i .going .p) in
           assigns ! (of-opd ! (load ! (from ! (vrt ! refl (fld ! refl (stop !)))) (look-in ! 11 (in-variant ! 0 0 refl refl (whole !)))))
           (from ! (stop !)) (init ! 23 refl (typed-h h ish)) $ forget ! 11 refl $
           assigns ! (addr ! (from ! (stop !))) (from ! (stop !)) (init ! 9 refl (tt, tt)) $
           assigns ! (addr ! (from ! (hop ! (look ! 32 refl) (stop !)))) (from ! (stop !)) (init ! 7 refl (tt, tt)) $
           -- the reader is lent, and the table is lent again
-          lends ! x l₄ p tt (λ ν δ. move ! (4 ∷ []) $ lends-on ! N (named 1) bt ot γt (i .tb) tt (λ ν′ δ′.
+          lends ! x l₄ p tt (λ ν δ. move ! (4 ∷ []) $ lends-on ! N (named 1) bt ot γt (i .going .tb) tt (λ ν′ δ′.
           -- [ν′; the table's loan; what is kept of it; the reader's loan; its tokens; what is kept of it; what the words own; _18 8; …]
           move ! (3 ∷ 4 ∷ 5 ∷ 0 ∷ 1 ∷ []) $ group ! 5 $
-          use1 W (raw (Nodes 𝓤 H A mem run .pre (to-nodes l₄ p (i .c .graphs) (h .nodes) ν δ ν′ δ′ (i .tb))))
-          (asked-nodes l₄ p (i .c .graphs) (h .nodes) g-fits n-fits (few-nodes i h o, omega (arith, next-at i h o)) ν δ ν′ δ′ (i .tb) (i .blanks)) $
+          use1 W (raw (Nodes 𝓤 H A mem run .pre (to-nodes l₄ p (i .going .c .graphs) (h .nodes) ν δ ν′ δ′ (i .going .tb))))
+          (asked-nodes l₄ p (i .going .c .graphs) (h .nodes) g-fits n-fits (
+            few-nodes ws extra (i .going) h o,
+            omega (
+              arith,
+              next-at ws extra
+                  (i .going) h o,
+            ),
+          ) ν δ ν′ δ′ (i .going .tb) (i .going .blanks)) $
           -- [what `check_nodes` asks; what is kept of the table; of the reader; what the words own; _18 4; …; _16 8; …; _15 10; …; _8 24; …; _5 30;
           -- …]
-          calls-at ! fm (Nodes 𝓤 H A mem run) known-nodes (to-nodes l₄ p (i .c .graphs) (h .nodes) ν δ ν′ δ′ (i .tb))
+          calls-at ! fm (Nodes 𝓤 H A mem run) known-nodes (to-nodes l₄ p (i .going .c .graphs) (h .nodes) ν δ ν′ δ′ (i .going .tb))
           (and-then ! (load ! (from ! (stop !)) (look ! 10 refl)) (and-then ! (load ! (from ! (fld ! refl (stop !)))
           (look-in ! 30 (sub ! 1 refl (whole !)))) (and-then ! (load ! (from ! (fld ! refl (stop !))) (look-in ! 24 (sub ! 2 refl (whole !))))
           (and-then ! (load ! (from ! (stop !)) (look ! 8 refl)) (no-more !))))) (λ u.
           use1 W (later (some (λ (r : Verdict). ((‵ (flft (ν ∷ κ) (PosShare·left q)) ⊛ ‵ (flft κ (PosShare·right q)) ⊛ ‵
           (flft (ν′ ∷ []) fullShare) ⊛ ‵ ftrue) ⊛ ‵ (Vd.the-row .own r (u ∷ []))) ⊛ raw
           (ensured 𝓤 H A nodes.ended (nodes.clauses 𝓤 H A mem run) (ν ∷ κ, (κ, (ν′ ∷ [], tt)))
-          (ref x p l₄ 0 δ, (i .c .graphs, (h .nodes, (at-value N bt ot δ′ (i .tb), tt)))) tt r)))) (id⊢ 𝓤 _) $ await ! tt $ pick ! (λ r.
+          (ref x p l₄ 0 δ, (i .going .c .graphs, (h .nodes, (at-value N bt ot δ′ (i .going .tb), tt)))) tt r)))) (id⊢ 𝓤 _) $ await ! tt $
+          pick ! (λ r.
           split ! $ move ! (1 ∷ []) $
           use1 W (some (λ (zs : Reader × (Unit {0} × (Unit {0} × (List ℕ × Unit {0})))). ‵
-          (lasts nodes.ended (ν ∷ κ, (κ, (ν′ ∷ [], tt))) (ref x p l₄ 0 δ, (i .c .graphs, (h .nodes, (at-value N bt ot δ′ (i .tb), tt)))) zs) ⊛ raw
-          (fact 𝓤 (NodesSaid p (i .c .graphs) (h .nodes) r (zs .0) (zs .1 .1 .1 .0))))) (id⊢ 𝓤 _) $ pick ! (λ zs.
-          split ! $ move ! (1 ∷ []) $ heard ! (NodesSaid p (i .c .graphs) (h .nodes) r (zs .0) (zs .1 .1 .1 .0)) (λ er.
+          (lasts nodes.ended (ν ∷ κ, (κ, (ν′ ∷ [], tt))) (
+            ref x p l₄ 0 δ,
+            (
+              i .going .c .graphs,
+              (h .nodes, (at-value N bt ot δ′ (i .going .tb), tt)),
+            ),
+          ) zs) ⊛ raw (fact 𝓤 (NodesSaid p (i .going .c .graphs) (h .nodes) r (zs .0)
+          (zs .1 .1 .1 .0))))) (id⊢ 𝓤 _) $ pick ! (λ zs.
+          split ! $ move ! (1 ∷ []) $ heard ! (NodesSaid p (i .going .c .graphs) (h .nodes) r (zs .0) (zs .1 .1 .1 .0)) (λ er.
           fsplit ! $ move ! (1 ∷ []) $ fsplit ! $ drop ! $ fsplit ! $ drop ! $ fsplit ! $ move ! (1 ∷ []) $ drop ! $
           -- [the table's last contents; the reader's last value; the tokens and the result; what is kept of the table; of the reader; what the
           -- words own; _18 6; …]
@@ -623,7 +571,7 @@ module _ {M : Type 1} (𝓤 : URA M) (H : Heap 𝓤) (A : Atoms 𝓤) (W : Given
           split ! $ move ! (1 ∷ []) $ split ! $ move ! (1 ∷ []) $ split ! $ move ! (1 ∷ []) $ drop ! $
           -- [ν′; κ's right half; the loan's token; the table's last contents; the reader's last value; what is kept of the table; of the reader;
           -- what the words own; _18 8; …]
-          move ! (0 ∷ 3 ∷ 5 ∷ []) $ comes-home ! N (named 1) bt ot γt (i .tb) (zs .1 .1 .1 .0) ν′ δ′ tt $
+          move ! (0 ∷ 3 ∷ 5 ∷ []) $ comes-home ! N (named 1) bt ot γt (i .going .tb) (zs .1 .1 .1 .0) ν′ δ′ tt $
           -- [the table; κ's right half; the loan's token; the reader's last value; what is kept of it; what the words own; _18 6; …]
           rewrite ! 3 (λ (y : Reader). ‵ (fres δ (B κ .coded .code y))) {x = rd x (zs .0 .at)}
           (λ j. record { words = er .1 j; at = zs .0 .at }) refl $
@@ -632,14 +580,15 @@ module _ {M : Type 1} (𝓤 : URA M) (H : Heap 𝓤) (A : Atoms 𝓤) (W : Given
           closes i h ish o r (subst (Is Vd.the-row r) (Vd′.lowers .val-is r (u ∷ []) isr) isr) (zs .0) (zs .1 .1 .1 .0) er)))))))
 
       -- what was due was told r
-      opened : (i : Going) (d : Due) (ed : d ≡ dueAt ws (i .p)) (r : Opening) → Is Op.the-row r (Op′.lowered r ∷ []) → OpeningTold d (i .c) extra r
-          → Sq W (Cells (i .c) (afterAt ws (i .p)) (i .tb) (room 17 l₁₇) (fat fullShare (τ 14) l₁₄ 0 (Op′.lowered r)) (room 9 l₉) (room 8 l₈)
-          (room 0 l₀)) (runs C Λ En from-match (anyQ (Turned i)))
+      opened : (i : Stand) (d : Due) (ed : d ≡ dueAt ws (i .going .p)) (r : Opening) → Is Op.the-row r (Op′.lowered r ∷ []) → OpeningTold d
+          (i .going .c) extra r
+          → Sq W (Cells (i .going .c) (afterAt ws (i .going .p)) (i .going .tb) (room 17 l₁₇) (fat fullShare (τ 14) l₁₄ 0 (Op′.lowered r))
+          (room 9 l₉) (room 8 l₈) (room 0 l₀)) (runs C Λ En from-match (anyQ (Turned i)))
       unfolding afterTurn
       opened i d ed (opening.Graph h) is told =
           switches ! (load ! (from ! (vrt ! refl (fld ! refl (stop !)))) (look-tag ! 11 (whole !))) (
             (λ y. absurd (omega (arith, y))),
-            ((λ _. graph-read i h is (told .graph ws (here i d ed) h refl)), (λ y. absurd (y .1 refl))),
+            ((λ _. graph-read i h is (told .graph ws (here ws extra (i .going) d ed) h refl)), (λ y. absurd (y .1 refl))),
           )
       opened i d ed (opening.Over a) is told =
           let isa : IsAnswer a = answer-is a _ (EL.owed Op.the-type Op′.the-laws (opening.Over a) _ is .0) in
@@ -648,24 +597,27 @@ module _ {M : Type 1} (𝓤 : URA M) (H : Heap 𝓤) (A : Atoms 𝓤) (W : Given
                 (from ! (stop !)) (init ! 25 refl (typed-a a isa)) $
                 assigns ! (of-opd ! (load ! (from ! (stop !)) (look ! 25 refl))) (from ! (stop !)) (init ! 38 refl (typed-a a isa)) $
                 returns-within ! Post refl (look ! 38 refl) $ forget ! 11 refl $ forget ! 25 refl $
-                leaves (i .c) (afterAt ws (i .p)) (i .tb) a isa (over-now i d ed (opening.Over a) told a refl)),
+                leaves (i .going .c) (afterAt ws (i .going .p)) (i .going .tb) a isa
+                (over-now ws extra (i .going) d ed (opening.Over a) told a refl)),
             ((λ y. absurd (omega (arith, y))), (λ y. absurd (y .0 .1 refl))),
           )
 
-      turns : (i : Going) → Sq W (At i) (runs C Λ En pieces.turn-1 (anyQ (Turned i)))
+      turns : (i : Stand) → Sq W (At i) (runs C Λ En pieces.turn-1 (anyQ (Turned i)))
       unfolding afterTurn
       turns i =
           assigns ! (addr ! (from ! (stop !))) (from ! (stop !)) (init ! 13 refl (tt, tt)) $
-          steps ! mem run x (i .p) fm known-next (λ _ _. and-then ! (load ! (from ! (stop !)) (look ! 14 refl)) (no-more !)) (λ d ed isd.
+          steps ! mem run x (i .going .p) fm known-next (λ _ _. and-then ! (load ! (from ! (stop !)) (look ! 14 refl)) (no-more !)) (λ d ed isd.
           land ! (from ! (stop !)) (init ! 27 refl (typed d isd)) $ forget ! 13 refl $
-          use0 W (raw (Open 𝓤 H A mem run .pre (to-open d (i .c)))) (asked-open d isd (i .c) (i .is) (may-open i d ed)) $
-          calls-at ! fm (Open 𝓤 H A mem run) known-open (to-open d (i .c)) (and-then ! (load ! (from ! (stop !)) (look ! 28 refl)) (and-then !
-          (load ! (from ! (stop !)) (look ! 30 refl)) (and-then ! (load ! (from ! (stop !)) (look ! 35 refl)) (no-more !)))) (λ u.
+          use0 W (raw (Open 𝓤 H A mem run .pre (to-open d (i .going .c)))) (asked-open d isd (i .going .c) (i .is) (may-open ws extra
+          (i .going) d ed)) $
+          calls-at ! fm (Open 𝓤 H A mem run) known-open (to-open d (i .going .c))
+          (and-then ! (load ! (from ! (stop !)) (look ! 28 refl)) (and-then ! (load ! (from ! (stop !)) (look ! 30 refl)) (and-then !
+          (load ! (from ! (stop !)) (look ! 35 refl)) (no-more !)))) (λ u.
           use1 W (later (some (λ (r : Opening). (‵ ftrue ⊛ ‵ (Op.the-row .own r (u ∷ []))) ⊛ raw
-          (ensured 𝓤 H A open-graph.ended (open-graph.clauses 𝓤 H A mem run) tt (d, (i .c, (extra, tt))) tt r)))) (id⊢ 𝓤 _) $ await ! tt $
-          pick ! (λ r.
-          split ! $ move ! (1 ∷ []) $ use1 W (raw (fact 𝓤 (OpeningTold d (i .c) extra r))) (open-said d (i .c) r) $
-          heard ! (OpeningTold d (i .c) extra r) (λ told. split ! $ drop ! $
+          (ensured 𝓤 H A open-graph.ended (open-graph.clauses 𝓤 H A mem run) tt (d, (i .going .c, (extra, tt))) tt r)))) (id⊢ 𝓤 _) $
+          await ! tt $ pick ! (λ r.
+          split ! $ move ! (1 ∷ []) $ use1 W (raw (fact 𝓤 (OpeningTold d (i .going .c) extra r))) (open-said d (i .going .c) r) $
+          heard ! (OpeningTold d (i .going .c) extra r) (λ told. split ! $ drop ! $
           facts ! Op.the-row (Is Op.the-row) (shows 𝓤 H A Op.the-row) r (u ∷ []) (λ isr.
           land ! (from ! (stop !)) (init ! 11 refl (EL.lawful Op.the-type Op′.the-laws 𝓤 H A W tt .typed r _ isr .0)) $
           rewrite ! 11 (λ (y : Val). ‵ (fat fullShare (τ 14) l₁₄ 0 y)) (ap only (Op′.lowers .val-is r (u ∷ []) isr)) refl $
@@ -695,8 +647,8 @@ module _ {M : Type 1} (𝓤 : URA M) (H : Heap 𝓤) (A : Atoms 𝓤) (W : Given
         (and-then ! (lit ! tt) (and-then ! (lit ! tt) (no-more !))))))) (from ! (stop !)) (init ! 30 refl (typed-c (counts 0 0 0 0) none-is)) $
         move ! (0 ∷ 1 ∷ []) $ join ! $ move ! (31 ∷ 0 ∷ []) $ join ! $
         first ! $ blocks ! $
-        loops ! 𝓣 Nearer Nearer-wf (At l₀ l₁ l₂ l₃ l₄ l₅ l₆ l₇ l₈ l₉ l₁₀ l₁₁ l₁₂ l₁₃ l₁₄ l₁₅ l₁₆ l₁₇ l₁₈)
-        (turns l₀ l₁ l₂ l₃ l₄ l₅ l₆ l₇ l₈ l₉ l₁₀ l₁₁ l₁₂ l₁₃ l₁₄ l₁₅ l₁₆ l₁₇ l₁₈) begin))))))))))))))))))))
+        loops ! 𝓣 Closer Closer-wf (At l₀ l₁ l₂ l₃ l₄ l₅ l₆ l₇ l₈ l₉ l₁₀ l₁₁ l₁₂ l₁₃ l₁₄ l₁₅ l₁₆ l₁₇ l₁₈)
+        (turns l₀ l₁ l₂ l₃ l₄ l₅ l₆ l₇ l₈ l₉ l₁₀ l₁₁ l₁₂ l₁₃ l₁₄ l₁₅ l₁₆ l₁₇ l₁₈) start))))))))))))))))))))
 
 module _ {M : Type 1} (𝓤 : URA M) (H : Heap 𝓤) (A : Atoms 𝓤) (W : Given 𝓤 H A) (mem : Memory → SProp 𝓤) (run : Routine → Fun 𝓤) (𝓣 : Tables 𝓤 H)
     (known-new : Triple 𝓤 (𝓣 .C #reader·new) (New 𝓤 H A mem run)) (known-next : Triple 𝓤 (𝓣 .C #reader·next) (Next 𝓤 H A mem run))
