@@ -1,7 +1,6 @@
 -- Where the loop over a card's graphs stands, and what a turn makes of it.
 -- The invariant: the answer from the place due on is the answer from the start, the reader stands at the place due, the graphs read so far have the
--- shape
--- of an accepted card, and the table is blank. Assumes nothing.
+-- shape of an accepted card, and the table is blank. Assumes nothing.
 use Prim.Native.Nat.{ℕ, _+_, _-_, _<_, _≤_}
 use mathlib.Core.Path.{_≡_, refl, sym, ap, _∙_, subst}
 use mathlib.Core.WellFounded.{WellFounded, InvImage·wf}
@@ -53,17 +52,14 @@ module _ (ws : List ℕ) (extra : ℕ) where
   begin t blank = record { c = counts 0 0 0 0; p = 0; tb = t; at = refl; shape = none-read ws; blanks = blank; same = refl }
 
   pub few : (i : Going) → Few (i .c)
-  few i = record {
-    inputs = omega (
-      arith,
-      i .shape .inputs-in,
-      i .shape .few-graphs,
-    );
-    graphs = i .shape .few-graphs;
-    nodes = i .shape .few-nodes;
-    observable = omega
-        (arith, few-observable (i .shape), i .shape .few-graphs);
-  }
+  few i =
+      let s = i .shape in
+      record {
+        inputs = omega (arith, s .inputs-in, s .few-graphs);
+        graphs = s .few-graphs;
+        nodes = s .few-nodes;
+        observable = omega (arith, few-observable s, s .few-graphs);
+      }
 
   -- what was due where the reader stands
   module _ (i : Going) (d : Due) (ed : d ≡ dueAt ws (i .p)) where

@@ -1,7 +1,6 @@
 -- Where the loop over a graph's nodes stands, and what a turn makes of it. The header stands at h, and the graph is graph g, of n nodes.
 -- The invariant: the verdict on the nodes from k on is the verdict on all, the reader stands at node k's read, and the table has what the exits of
--- the
--- nodes before name. Assumes nothing.
+-- the nodes before name. Assumes nothing.
 use Prim.Native.Nat.{ℕ, _+_, _-_, _*_, _<_, _≤_}
 use mathlib.Core.Path.{_≡_, refl, sym, ap, _∙_, subst}
 use mathlib.Core.WellFounded.{WellFounded, InvImage·wf}

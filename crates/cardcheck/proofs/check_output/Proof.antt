@@ -1,4 +1,6 @@
 -- `cardcheck::check_output` meets its contract. Assumes nothing.
+use Prim.Native.Nat.{_+_}
+use native.Mathlib.Omega.{arith}
 use borrow.Author.Tests.{lt-ltb, le-ltb, eq-eqb, ne-eqb}
 use borrow.Author.Needs.{needs}
 use Rattle.cardcheck.proofs.check_output.Statement.{statement}
@@ -49,7 +51,7 @@ returns-4 c =
       eq-eqb _ _ (at-if-2 .if2 .left),
       ← at-count .node-count .ensures,
       ne-eqb _ _ (at-if-3 .if3 .left),
-      lt-ltb _ _ (c .if4 .taken),
+      lt-ltb 4096 (at-count .before .args .c .nodes + at-count .node-count .result) (omega (arith, c .if4 .taken)),
       at-count .before .pre .0,
     )
 
@@ -66,7 +68,7 @@ returns-5 c =
       eq-eqb _ _ (at-if-2 .if2 .left),
       ← at-count .node-count .ensures,
       ne-eqb _ _ (at-if-3 .if3 .left),
-      le-ltb _ _ (c .if4 .left),
+      le-ltb 4096 (at-count .before .args .c .nodes + at-count .node-count .result) (omega (arith, c .if4 .left)),
     )
 
 pub check-output-spec : {M : Type 1} → statement M

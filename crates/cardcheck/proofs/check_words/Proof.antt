@@ -1,8 +1,7 @@
 -- `cardcheck::check_words` meets its contract: a walk of its MIR, by hand. One reader, in a local, goes from the first word to the last: each turn
--- of the
--- loop asks it for a header, lends it with the table to `check_nodes`, and closes the graph; a turn that is over returns its answer.
--- Where the loop stands, with its invariant, is Graphs.antt's `Going`. All that is known of the callees is that each meets its contract. Assumes
--- nothing.
+-- of the loop asks it for a header, lends it with the table to `check_nodes`, and closes the graph; a turn that is over returns its answer.
+-- Where the loop stands, with its invariant, is Graphs.antt's `Going`. All that is known of the callees is that each meets its contract.
+-- Assumes nothing.
 use mathlib.Core.Path.{_≡_, refl, ap, subst}
 use Prim.Native.Nat.{ℕ, _-_, _<_, _≤_, _^_}
 use mathlib.Core.WellFounded.{WellFounded, InvImage·wf}
@@ -23,78 +22,12 @@ use ghost.Atoms.{Atoms, sem}
 use contract.BorrowLft.{meet-⊑-right}
 use contract.Monad.{Fun, fact}
 use contract.Running.{givenOf, tables, tablesOf}
-use types.Kit.{
-  Given,
-  Item,
-  Sq,
-  runs,
-  prop,
-  frees,
-  anyQ,
-  group,
-  use0,
-  ‵,
-  raw,
-  some,
-  later,
-  _⊛_,
-  ⋆,
-  _$_,
-  _∵_,
-  !,
-  qed,
-  by,
-  move,
-  drop,
-  use1,
-  use2,
-  split,
-  join,
-  pick,
-  rewrite,
-  await,
-  fsplit,
-  fjoin,
-  suffices,
-  frame,
-  done,
-}
+use types.Kit.{Given, Item, Sq, runs, prop, frees, anyQ, group, use0, ‵, raw, some, later, _⊛_, ⋆, _$_, _∵_, !, qed, by, move, drop, use1, use2}
+use types.Kit.{split, join, pick, rewrite, await, fsplit, fjoin, suffices, frame, done}
 use types.Match.{vrt, look-tag, in-variant}
 use types.Part.{agg, whole, sub, look-in}
-use types.Run.{
-  look,
-  store,
-  init,
-  forget,
-  stop,
-  hop,
-  fld,
-  from,
-  load,
-  lit,
-  addr,
-  of-opd,
-  and-then,
-  no-more,
-  assigns,
-  assigns-last,
-  land,
-  first,
-  blocks,
-  switches,
-  returns-within,
-  Below,
-  again,
-  loops,
-  enter,
-  alloc1,
-  alloc0,
-  params1,
-  pass1,
-  pass0,
-  free1,
-  free0,
-}
+use types.Run.{look, store, init, forget, stop, hop, fld, from, load, lit, addr, of-opd, and-then, no-more, assigns, assigns-last, land, first}
+use types.Run.{blocks, switches, returns-within, Below, again, loops, enter, alloc1, alloc0, params1, pass1, pass0, free1, free0}
 use sound.WpLaws.{FmC, fmOf, WpFn-mono}
 use denote.RattleType.{RattleType, owns}
 use denote.Laws.{Is, shows}
@@ -112,22 +45,8 @@ use denote.Triple.Clauses.{ensured, lasts}
 use denote.Triple.Entry.{onEntry}
 use denote.Triple.Spec.{Meets, tripleOf}
 use denote.Triple.Table.{entered, cited}
-use denote.Triple.Walked.{
-  says,
-  needs,
-  Stays,
-  stay-none,
-  stay-none-slice,
-  stay-ref,
-  walkOf,
-  goes-none,
-  goes-none-slice,
-  goes-ref,
-  Walks,
-  ends-at,
-  walked,
-  walk-meets,
-}
+use denote.Triple.Walked.{says, needs, Stays, stay-none, stay-none-slice, stay-ref, walkOf, goes-none, goes-none-slice, goes-ref, Walks, ends-at}
+use denote.Triple.Walked.{walked, walk-meets}
 use denote.Exit.{yes as kept}
 use Rattle.reader.specs.Due.{dueAt, afterAt}
 use Rattle.reader.specs.declared.Due.{Due}
@@ -169,22 +88,8 @@ use Rattle.cardcheck.proofs.Opening as Op
 use Rattle.cardcheck.proofs.Opening.Laws as Op′
 use Rattle.cardcheck.proofs.Graph as Gr
 use Rattle.cardcheck.proofs.Graph.Laws as Gr′
-use Rattle.cardcheck.proofs.Graphs.{
-  all,
-  Going,
-  Nearer,
-  Nearer-wf,
-  begin,
-  few,
-  here,
-  may-open,
-  over-now,
-  few-nodes,
-  next-at,
-  over-then,
-  onward,
-  nearer,
-}
+use Rattle.cardcheck.proofs.Graphs.{all, Going, Nearer, Nearer-wf, begin, few, here, may-open, over-now, few-nodes, next-at, over-then}
+use Rattle.cardcheck.proofs.Graphs.{onward, nearer}
 use Rattle.cardcheck.proofs.open_graph as open-graph
 use Rattle.cardcheck.proofs.open_graph.Symbol as open-def
 use Rattle.cardcheck.proofs.open_graph.Symbol.{name as #cardcheck·open-graph}

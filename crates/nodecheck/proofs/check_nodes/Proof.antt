@@ -1,8 +1,7 @@
 -- `nodecheck::check_nodes` meets its contract: a walk of its MIR, by hand. The reader stands behind a `&mut` that is lent again to `next` twice in
--- a turn;
--- the table is lent again to `check_exits`; a verdict that is not sound is returned, and after a bad read the exits are not read.
--- Where the loop stands, with its invariant, is Nodes.antt's `Going`. All that is known of the callees is that each meets its contract. Assumes
--- nothing.
+-- a turn; the table is lent again to `check_exits`; a verdict that is not sound is returned, and after a bad read the exits are not read.
+-- Where the loop stands, with its invariant, is Nodes.antt's `Going`. All that is known of the callees is that each meets its contract.
+-- Assumes nothing.
 use mathlib.Core.Path.{_≡_, refl, ap, subst}
 use mathlib.Core.Bool.{Bool}
 use Prim.Native.Nat.{ℕ, _-_, _<_, _≤_, _^_}
@@ -23,84 +22,13 @@ use ghost.Atoms.{Atoms, sem}
 use contract.Lifetimes.{AllOutlive}
 use contract.Monad.{Fun, fact}
 use contract.Running.{givenOf, tables, tablesOf}
-use types.Kit.{
-  Given,
-  Item,
-  Sq,
-  runs,
-  prop,
-  frees,
-  anyQ,
-  atRet,
-  use0,
-  ‵,
-  raw,
-  some,
-  later,
-  _⊛_,
-  ⋆,
-  _$_,
-  _∵_,
-  !,
-  qed,
-  by,
-  move,
-  drop,
-  use1,
-  use2,
-  split,
-  join,
-  pick,
-  rewrite,
-  await,
-  fsplit,
-  fjoin,
-  suffices,
-  frame,
-  done,
-}
+use types.Kit.{Given, Item, Sq, runs, prop, frees, anyQ, atRet, use0, ‵, raw, some, later, _⊛_, ⋆, _$_, _∵_, !, qed, by, move, drop, use1, use2}
+use types.Kit.{split, join, pick, rewrite, await, fsplit, fjoin, suffices, frame, done}
 use types.Match.{vrt, look-tag}
 use types.Part.{agg, whole}
-use types.Run.{
-  look,
-  store,
-  init,
-  forget,
-  stop,
-  hop,
-  fld,
-  from,
-  load,
-  lit,
-  addr,
-  of-opd,
-  bin,
-  and-then,
-  no-more,
-  assigns,
-  assigns-last,
-  land,
-  first,
-  skips,
-  blocks,
-  stays,
-  leaves-loop,
-  switches,
-  exec,
-  returns,
-  returns-within,
-  Below,
-  again,
-  loops,
-  enter,
-  alloc1,
-  alloc0,
-  params1,
-  pass1,
-  pass0,
-  free1,
-  free0,
-}
+use types.Run.{look, store, init, forget, stop, hop, fld, from, load, lit, addr, of-opd, bin, and-then, no-more, assigns, assigns-last, land, first}
+use types.Run.{skips, blocks, stays, leaves-loop, switches, exec, returns, returns-within, Below, again, loops, enter, alloc1, alloc0, params1}
+use types.Run.{pass1, pass0, free1, free0}
 use sound.WpLaws.{FmC, fmOf, WpFn-mono}
 use borrow.Author.Tests.{lt-ltb, le-ltb}
 use denote.RattleType.{RattleType, owns}
