@@ -1,22 +1,46 @@
-/* host.c: a small host in C. It reads what cardgrade reads, a card's word count, the card and the
- * vectors, calls the engine and prints the same lines.
+/* host.c: a small host in C. It reads what cardgrade reads, a card's word count, the card and vector
+ * words to the end, calls the engine, and prints what cardgrade prints, byte for byte and for every
+ * input (tests/example-host compares).
  *
- *   gcc -O2 examples/host.c libcardhost.a -o host
+ *   rt staticlib cardhost
+ *   gcc -O2 examples/host.c target/staticlib/libcardhost.a -o host
  *   examples/bytes examples/s.words | ./host
+ *
+ * Exit status: 0 after a grading; 1 after refused, short or long; 2 where reading or writing fails.
  */
 #include "../include/cardhost.h"
 
 #include <stdio.h>
 
+/* The most words of a card, the most vector words, and the faults of 4,096 nodes and 1,024 graphs. */
 enum { CARD_WORDS = 9216, VECTOR_WORDS = 16384, FAULTS = 10240 };
 
-static uint8_t input[4 * (1 + CARD_WORDS + VECTOR_WORDS)];
+/* One vector word more than is graded, so that a longer list shows. */
+static uint8_t count[4], card[4 * CARD_WORDS], vectors[4 * (VECTOR_WORDS + 1)];
+static size_t card_len, vectors_len;
 static uint8_t numbers[4 * 5], marks[4 * FAULTS], tallies[4 * FAULTS];
 
 static uint32_t word(const uint8_t *bytes, size_t at)
 {
     bytes += 4 * at;
     return (uint32_t)bytes[0] << 24 | (uint32_t)bytes[1] << 16 | (uint32_t)bytes[2] << 8 | bytes[3];
+}
+
+/* Reads no further than decides, so that an endless input has its answer too. NULL where there is a
+ * list to grade, else the line that is printed in its place. */
+static const char *take_input(void)
+{
+    if (fread(count, 1, sizeof count, stdin) < sizeof count)
+        return "short";
+    if (word(count, 0) > CARD_WORDS)
+        return "refused 1 0";
+    card_len = 4 * (size_t)word(count, 0);
+    if (fread(card, 1, card_len, stdin) < card_len)
+        return "short";
+    vectors_len = fread(vectors, 1, sizeof vectors, stdin);
+    if (vectors_len == sizeof vectors)
+        return "long";
+    return vectors_len % 4 ? "short" : NULL;
 }
 
 static void print_fault(uint32_t fault)
@@ -28,23 +52,16 @@ static void print_fault(uint32_t fault)
         printf("%u %u %u\n", (unsigned)fault, (unsigned)(mark - 0xE0000000), (unsigned)word(tallies, fault));
 }
 
-int main(void)
+/* Grades the list and answers the exit status. The buffers are long enough for every card, so what the
+ * first call takes the other two take as well. */
+static int grade(void)
 {
-    size_t len = fread(input, 1, sizeof input, stdin);
-    size_t card_len = len < 4 ? 0 : 4 * (size_t)word(input, 0);
-    const uint8_t *card = input + 4, *vectors = card + card_len;
-    uint64_t answer, marked;
-
-    if (len < 4 || card_len > len - 4) {
-        puts("short");
+    uint64_t marked = card_first_marking(card, card_len, vectors, vectors_len, marks, sizeof marks);
+    if (CARD_REFUSAL(marked)) {
+        printf("refused %u %u\n", (unsigned)CARD_REFUSAL(marked), (unsigned)CARD_POSITION(marked));
         return 1;
     }
-    answer = card_first_marking(card, card_len, vectors, len - 4 - card_len, marks, sizeof marks);
-    if (CARD_REFUSAL(answer)) {
-        printf("refused %u %u\n", (unsigned)CARD_REFUSAL(answer), (unsigned)CARD_POSITION(answer));
-        return 1;
-    }
-    marked = card_tally(card, card_len, vectors, len - 4 - card_len, tallies, sizeof tallies);
+    card_tally(card, card_len, vectors, vectors_len, tallies, sizeof tallies);
     card_check(card, card_len, numbers, sizeof numbers);
     printf("card %u %u %u %u\n", (unsigned)word(numbers, 0), (unsigned)word(numbers, 1), (unsigned)word(numbers, 2),
            (unsigned)word(numbers, 4));
@@ -52,4 +69,23 @@ int main(void)
         print_fault(fault);
     printf("grade %u %u\n", (unsigned)marked, (unsigned)word(numbers, 4));
     return 0;
+}
+
+int main(void)
+{
+    const char *line = take_input();
+    int status = 1;
+    if (ferror(stdin)) { /* a failed read is no end of the input: nothing is graded */
+        perror("host: standard input");
+        return 2;
+    }
+    if (line)
+        puts(line);
+    else
+        status = grade();
+    if (fflush(stdout) || ferror(stdout)) {
+        perror("host: standard output");
+        return 2;
+    }
+    return status;
 }
