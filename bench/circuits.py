@@ -528,6 +528,18 @@ RANDOM = {
 }
 
 
+def worst_card():
+    """The dearest card that we know: a chain of graphs of one node each, and above
+    it one graph that reads them all, walks all of its nodes and is always 0. Each
+    graph's change walk goes through everything above it and finds nothing."""
+    card = Card(16)
+    for g in range(16, MAX_GRAPHS - 1):
+        card.add([(g - 1, 0, 1)])
+    n = MAX_NODES - card.nodes
+    card.add([(k % (MAX_GRAPHS - 1), k + 3, k + 3) for k in range(n - 1)]
+             + [(MAX_GRAPHS - 2, 0, 0)], True)
+    return card
+
 
 # -------------------------------------------------------------------- names
 
@@ -553,6 +565,8 @@ def build(name):
         return (akers_ripple if m.group(1) == "ripple" else akers_cla)(int(m.group(2)))
     if base in RANDOM:
         return random_card(*RANDOM[base])
+    if base == "worst":
+        return worst_card()
     if base == "S":
         card = Card(1)
         card.add([(0, 0, 1)])
@@ -723,6 +737,7 @@ def verify():
         assert card.graphs <= 1024 and card.nodes == 4000
         read = {n[0] for _, ns in card.outs for n in ns} | set(card.observables)
         line(name, card, "unread %d" % (card.graphs - len(read)))
+    line("worst", build("worst").check())
     print("verified: 32-input exclusive-or tree 218 nodes, 436 node faults; "
           "50-cell adder 1,151 nodes, 2,302 node faults, 600 gates; 74S181 87 gates")
 
