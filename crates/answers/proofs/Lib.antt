@@ -1,3 +1,4 @@
--- What sound verdicts tell, and how a call goes.
+-- What document 01's numbers and sound verdicts tell, and how a call goes.
+pub mod Answers
 pub mod Tests
 pub mod Calls

@@ -1,10 +1,14 @@
--- What document 01 tells for each case of our answers. Only `numberOf` goes by cases on the rules. Assumes nothing.
+-- Document 01's number, position and values for each case of our answers: the promises of the calls use these. Only `numberOf` goes by cases on the
+-- rules. Assumes nothing.
 use Prim.Native.Nat.{ℕ}
 use mathlib.Core.List.{List, [], _∷_}
 use Rattle.answers.specs.declared.Rule.{Rule}
 use Rattle.answers.specs.declared.Rule.the-variants.{CardTooLong, TooManyGraphs, NodeCount, WordNotDue, StrayBit, ReadNotBelow, ExitNotLater, NodeNotNamed, NothingObservable, VectorForm, NumberTooHigh, BufferTooShort}
+use Rattle.answers.specs.declared.Counts.{Counts}
 use Rattle.answers.specs.declared.Answer.{Answer}
-use Rattle.answers.specs.declared.Answer.the-variants.{Accepted, Refused}
+use Rattle.answers.specs.declared.Answer.the-variants as answer
+use Rattle.answers.specs.declared.Reply.{Reply}
+use Rattle.answers.specs.declared.Reply.the-variants as reply
 
 -- a rule's number in the table of refusals
 unfoldable pub numberOf : Rule → ℕ
@@ -21,7 +25,31 @@ numberOf VectorForm = 10
 numberOf NumberTooHigh = 11
 numberOf BufferTooShort = 12
 
--- the values of a check: the five numbers of an accepted card in document 01's order, or a refusal's number and position
-abbrev pub valuesOf : Answer → List ℕ
-valuesOf (Accepted c) = c .inputs ∷ c .graphs ∷ c .nodes ∷ c .observable ∷ c .faults ∷ []
-valuesOf (Refused rule position) = numberOf rule ∷ position ∷ []
+-- WHAT A CALL BY WORDS TELLS, in document 01's numbers: a refusal's number and position and no values, or values and both numbers 0. The words of a
+-- lent buffer have an equation of their own.
+pub record Told : Type 0 where
+  pub number : ℕ
+  pub position : ℕ
+  pub values : List ℕ
+
+abbrev pub refusal : ℕ → ℕ → Told
+refusal number position = record { number = number; position = position; values = [] }
+
+abbrev pub result : List ℕ → Told
+result values = record { number = 0; position = 0; values = values }
+
+-- the five numbers of an accepted card, in the order of document 01
+abbrev pub valuesOf : Counts → List ℕ
+valuesOf c = c .inputs ∷ c .graphs ∷ c .nodes ∷ c .observable ∷ c .faults ∷ []
+
+-- a check tells these, or its refusal
+unfoldable pub answerTold : Answer → Told
+unfolding numberOf
+answerTold (answer.Accepted c) = result (valuesOf c)
+answerTold (answer.Refused rule position) = refusal (numberOf rule) position
+
+-- any other call tells one number, or its refusal: the length of a change list, the marked count of a grading, else 0
+unfoldable pub replyTold : Reply → Told
+unfolding numberOf
+replyTold (reply.Done number) = result (number ∷ [])
+replyTold (reply.Refused rule position) = refusal (numberOf rule) position

@@ -1,4 +1,5 @@
-// Document 01's rules, the answers of a check and the replies of calls; in specs/ how tests come in their order, and how any call goes.
+// Document 01's rules, the answers of a check and the replies of calls; in specs/ document 01's numbers for each, how tests come in their order, and
+// how any call goes.
 ghost use mathlib.Core.Path.{_≡_};
 ghost use Rattle.answers.specs.Answers.{numberOf};
 

@@ -5,7 +5,8 @@ ghost use Prim.Native.Nat.{_≤_};
 ghost use lib.Dec.{eqb};
 ghost use Rattle.lists.specs.Counting.{choose};
 ghost use Rattle.word32.specs.Fields.{kind};
-ghost use Rattle.form.specs.Check.{counts, place, withGraph, inputTests, outputTests, headerVerdict, rest, checkedWith, checked};
+ghost use Rattle.form.specs.Check.{counts, place, withGraph, inputTests, outputTests, headerVerdict, rest, checkedWith, checkTold};
+ghost use Rattle.answers.specs.Answers.{answerTold};
 ghost use Rattle.answers.specs.Tests.{firstBroken};
 ghost use Rattle.nodecheck.specs.Table.{Blank};
 ghost use Rattle.cardcheck.specs.Graph.{EndTold, AtPlace, openingOf, OpeningTold, Few, GraphTold};
@@ -209,7 +210,7 @@ pub fn check_with(card: &[u32], extra: usize) -> Answer
 
 // The check of a card.
 pub fn check(card: &[u32]) -> Answer
-    ensures { λ r. ⌜ r ≡ checked (now (card .entry)) ⌝ }
+    ensures { λ r. ⌜ answerTold r ≡ checkTold (now (card .entry)) ⌝ }
 {
     check_with(card, 0)
 }

@@ -8,6 +8,7 @@ use Rattle.lists.specs.Tables.{over, chosen, front}
 use Rattle.answers.specs.declared.Counts.{Counts}
 use Rattle.answers.specs.declared.Reply.{Reply}
 use Rattle.answers.specs.declared.Rule.the-variants.{NumberTooHigh, BufferTooShort}
+use Rattle.answers.specs.Answers.{Told, replyTold}
 use Rattle.answers.specs.Tests.{Test, test}
 use Rattle.form.specs.Check.{checked}
 use Rattle.answers.specs.Calls.{callTests, replied, written}
@@ -28,6 +29,9 @@ changeReply ws x g b =
     replied (checked ws) (λ c. callTests (vectorVerdict (c .inputs) x) (changeTests g (length b) c))
     (λ c. count (changes ws c x g) (c .graphs))
 
+abbrev pub changeTold : List ℕ → List ℕ → ℕ → List ℕ → Told
+changeTold ws x g b = replyTold (changeReply ws x g b)
+
 abbrev pub changeBuffer : List ℕ → List ℕ → ℕ → List ℕ → List ℕ
 changeBuffer ws x g b =
     written (checked ws) (λ c. callTests (vectorVerdict (c .inputs) x) (changeTests g (length b) c))
@@ -40,6 +44,9 @@ criticalTests room c = test (ltb room (c .nodes)) BufferTooShort 0 ∷ []
 -- CRITICAL NODES: one word for each node, 1 where forcing its other exit alters an observable graph, else 0
 abbrev pub criticalReply : List ℕ → List ℕ → List ℕ → Reply
 criticalReply ws x b = replied (checked ws) (λ c. callTests (vectorVerdict (c .inputs) x) (criticalTests (length b) c)) (λ c. 0)
+
+abbrev pub criticalTold : List ℕ → List ℕ → List ℕ → Told
+criticalTold ws x b = replyTold (criticalReply ws x b)
 
 abbrev pub criticalBuffer : List ℕ → List ℕ → List ℕ → List ℕ
 criticalBuffer ws x b =

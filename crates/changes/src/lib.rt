@@ -6,11 +6,12 @@ ghost use lib.ListN.{length, getD};
 ghost use lib.Dec.{ltb, eqb};
 ghost use Rattle.lists.specs.Counting.{choose, count};
 ghost use Rattle.lists.specs.Tables.{over, chosen, front};
+ghost use Rattle.answers.specs.Answers.{replyTold};
 ghost use Rattle.answers.specs.Tests.{firstBroken};
 ghost use Rattle.layout.specs.Shape.{Shape};
 ghost use Rattle.testvectors.specs.Vectors.{width};
 ghost use Rattle.detect.specs.Detects.{changes, criticalAt};
-ghost use Rattle.changes.specs.Calls.{changeTests, changeReply, changeBuffer, criticalTests, criticalReply, criticalBuffer};
+ghost use Rattle.changes.specs.Calls.{changeTests, changeTold, changeBuffer, criticalTests, criticalTold, criticalBuffer};
 ghost use Rattle.changes.specs.Appended.{Appended};
 use answers::Answer;
 use answers::Counts;
@@ -87,7 +88,7 @@ pub fn test_change(c: Counts, graph: u32, room: usize) -> Verdict
 
 // The change list of a graph: its length, and the numbers rising in the front of the buffer.
 pub fn change_list(card: &[u32], vector: &[u32], graph: u32, list: &mut [u32]) -> Reply
-    ensures { λ r. ⌜ (r ≡ changeReply (now (card .entry)) (now (vector .entry)) graph (now (list .entry)))
+    ensures { λ r. ⌜ (replyTold r ≡ changeTold (now (card .entry)) (now (vector .entry)) graph (now (list .entry)))
         × (now (list .exit) ≡ changeBuffer (now (card .entry)) (now (vector .entry)) graph (now (list .entry))) ⌝ }
 {
     match opening::open_vector(card, vector) {
@@ -159,7 +160,7 @@ pub fn test_critical(c: Counts, room: usize) -> Verdict
 
 // Critical nodes: one word for each node, 1 where forcing its other exit alters an observable graph, else 0.
 pub fn critical_nodes(card: &[u32], vector: &[u32], nodes: &mut [u32]) -> Reply
-    ensures { λ r. ⌜ (r ≡ criticalReply (now (card .entry)) (now (vector .entry)) (now (nodes .entry)))
+    ensures { λ r. ⌜ (replyTold r ≡ criticalTold (now (card .entry)) (now (vector .entry)) (now (nodes .entry)))
         × (now (nodes .exit) ≡ criticalBuffer (now (card .entry)) (now (vector .entry)) (now (nodes .entry))) ⌝ }
 {
     match opening::open_vector(card, vector) {

@@ -6,6 +6,7 @@ use mathlib.Core.Bool.{Bool, true, false, not, _&&_, _||_}
 use lib.ListN.{length, getD}
 use lib.Dec.{ltb, leb, eqb}
 use Rattle.lists.specs.Counting.{choose, some-below}
+use Rattle.answers.specs.Answers.{Told, answerTold}
 use Rattle.answers.specs.Tests.{Test, test, unless, firstBroken, andThen, onward}
 use Rattle.word32.specs.Fields.{kind, inputSpare, headerSpare, readSpare, exitsSpare, nodeCount, readGraph, exitOf}
 use Rattle.answers.specs.declared.Rule.the-variants.{CardTooLong, TooManyGraphs, NodeCount, WordNotDue, StrayBit, ReadNotBelow, ExitNotLater, NodeNotNamed, NothingObservable}
@@ -135,3 +136,7 @@ module _ (ws : List ℕ) where
   -- THE CHECK of a card
   abbrev pub checked : Answer
   checked = checkedWith 0
+
+  -- the same in document 01's numbers
+  abbrev pub checkTold : Told
+  checkTold = answerTold checked

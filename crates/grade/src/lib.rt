@@ -3,13 +3,14 @@ ghost use mathlib.Core.Path.{_≡_};
 ghost use Prim.Native.Nat.{_≤_};
 ghost use lib.ListN.{length};
 ghost use Rattle.lists.specs.Tables.{over};
+ghost use Rattle.answers.specs.Answers.{replyTold};
 ghost use Rattle.answers.specs.Tests.{firstBroken};
 ghost use Rattle.detect.specs.Grading.{marked};
 ghost use Rattle.layout.specs.Tables.{Tabled};
 ghost use Rattle.block.specs.Block.{Standing};
 ghost use Rattle.grade.specs.Graded.{Listed, graded, Graded};
 ghost use Rattle.grade.specs.Either.{gradeBuffer};
-ghost use Rattle.grade.specs.Calls.{gradeTests, gradeReply, marksBuffer, talliesBuffer};
+ghost use Rattle.grade.specs.Calls.{gradeTests, gradeTold, marksBuffer, talliesBuffer};
 use answers::Answer;
 use answers::Counts;
 use answers::Reply;
@@ -79,7 +80,7 @@ pub fn test_grade(c: Counts, room: usize) -> Verdict
 
 // Either grading: the refusals in their order, and else the grading.
 fn grade(drops: bool, card: &[u32], list: &[u32], marks: &mut [u32]) -> Reply
-    ensures { λ r. ⌜ (r ≡ gradeReply (now (card .entry)) (now (list .entry)) (now (marks .entry)))
+    ensures { λ r. ⌜ (replyTold r ≡ gradeTold (now (card .entry)) (now (list .entry)) (now (marks .entry)))
         × (now (marks .exit) ≡ gradeBuffer drops (now (card .entry)) (now (list .entry)) (now (marks .entry))) ⌝ }
 {
     match opening::open_list(card, list) {
@@ -95,7 +96,7 @@ fn grade(drops: bool, card: &[u32], list: &[u32], marks: &mut [u32]) -> Reply
 
 // First-marking: one word for each fault, C0000000 if no vector catches it, else E0000000 plus the number of the earliest that does; and the marked count.
 pub fn first_marking(card: &[u32], vectors: &[u32], marks: &mut [u32]) -> Reply
-    ensures { λ r. ⌜ (r ≡ gradeReply (now (card .entry)) (now (vectors .entry)) (now (marks .entry)))
+    ensures { λ r. ⌜ (replyTold r ≡ gradeTold (now (card .entry)) (now (vectors .entry)) (now (marks .entry)))
         × (now (marks .exit) ≡ marksBuffer (now (card .entry)) (now (vectors .entry)) (now (marks .entry))) ⌝ }
 {
     grade(true, card, vectors, marks)
@@ -103,7 +104,7 @@ pub fn first_marking(card: &[u32], vectors: &[u32], marks: &mut [u32]) -> Reply
 
 // Tallying: one word for each fault, the number of vectors that catch it; and the marked count.
 pub fn tally(card: &[u32], vectors: &[u32], tallies: &mut [u32]) -> Reply
-    ensures { λ r. ⌜ (r ≡ gradeReply (now (card .entry)) (now (vectors .entry)) (now (tallies .entry)))
+    ensures { λ r. ⌜ (replyTold r ≡ gradeTold (now (card .entry)) (now (vectors .entry)) (now (tallies .entry)))
         × (now (tallies .exit) ≡ talliesBuffer (now (card .entry)) (now (vectors .entry)) (now (tallies .entry))) ⌝ }
 {
     grade(false, card, vectors, tallies)

@@ -2,7 +2,6 @@
 use Prim.Native.Nat.{ℕ}
 use mathlib.Core.List.{List, [], _∷_}
 use lib.Dec.{ltb}
-use Rattle.answers.specs.declared.Answer.the-variants.{Accepted}
 use Rattle.answers.specs.declared.Rule.the-variants.{BufferTooShort}
 use Rattle.answers.specs.Answers.{valuesOf}
 use Rattle.answers.specs.Tests.{Test, test, firstBroken}
@@ -18,4 +17,4 @@ abbrev pub checkAnswer : List ℕ → List ℕ → ℕ
 checkAnswer card b = hostAnswer (replied (hostCheck card) (λ c. firstBroken (checkTests (room b))) (λ c. 0))
 
 abbrev pub checkBytes : List ℕ → List ℕ → List ℕ
-checkBytes card b = written (hostCheck card) (λ c. firstBroken (checkTests (room b))) (λ c. asBytes (valuesOf (Accepted c)) b) b
+checkBytes card b = written (hostCheck card) (λ c. firstBroken (checkTests (room b))) (λ c. asBytes (valuesOf c) b) b

@@ -1,7 +1,6 @@
 // The check of a card in bytes: the numbers that the check by words answers are written as bytes.
 ghost use mathlib.Core.Path.{_≡_};
 ghost use Prim.Native.Nat.{_≤_};
-ghost use Rattle.answers.specs.declared.Answer.the-variants.{Accepted};
 ghost use Rattle.answers.specs.Answers.{valuesOf};
 ghost use Rattle.answers.specs.Tests.{firstBroken};
 ghost use Rattle.hostcheck.specs.Calls.{checkTests, checkAnswer, checkBytes};
@@ -23,7 +22,7 @@ fn test_check(room: usize) -> Verdict
 // The numbers of a check, as words.
 fn numbers_of(c: Counts) -> [u32; 5]
     requires { ⌜ (c .inputs ≤ 10240) × (c .graphs ≤ 10240) × (c .nodes ≤ 10240) × (c .observable ≤ 10240) × (c .faults ≤ 10240) ⌝ }
-    ensures { λ r. ⌜ r ≡ valuesOf (Accepted c) ⌝ }
+    ensures { λ r. ⌜ r ≡ valuesOf c ⌝ }
 {
     [
         c.inputs as u32,

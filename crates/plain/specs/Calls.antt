@@ -9,6 +9,7 @@ use Rattle.lists.specs.Tables.{over}
 use Rattle.answers.specs.declared.Counts.{Counts}
 use Rattle.answers.specs.declared.Reply.{Reply}
 use Rattle.answers.specs.declared.Rule.the-variants.{NumberTooHigh, BufferTooShort}
+use Rattle.answers.specs.Answers.{Told, replyTold}
 use Rattle.answers.specs.Tests.{Test, test}
 use Rattle.form.specs.Check.{checked}
 use Rattle.answers.specs.Calls.{callTests, replied, written}
@@ -42,12 +43,18 @@ valuesBuffer ws x fs b =
 abbrev pub goodReply : List ℕ → List ℕ → List ℕ → Reply
 goodReply ws x b = valuesReply ws x [] b
 
+abbrev pub goodTold : List ℕ → List ℕ → List ℕ → Told
+goodTold ws x b = replyTold (goodReply ws x b)
+
 abbrev pub goodBuffer : List ℕ → List ℕ → List ℕ → List ℕ
 goodBuffer ws x b = valuesBuffer ws x [] b
 
 -- VALUES WITH ONE FAULT f
 abbrev pub faultReply : List ℕ → List ℕ → ℕ → List ℕ → Reply
 faultReply ws x f b = valuesReply ws x (f ∷ []) b
+
+abbrev pub faultTold : List ℕ → List ℕ → ℕ → List ℕ → Told
+faultTold ws x f b = replyTold (faultReply ws x f b)
 
 abbrev pub faultBuffer : List ℕ → List ℕ → ℕ → List ℕ → List ℕ
 faultBuffer ws x f b = valuesBuffer ws x (f ∷ []) b

@@ -4,6 +4,7 @@ ghost use mathlib.Core.Path.{_≡_};
 ghost use Prim.Native.Nat.{ℕ, _≤_, _<_};
 ghost use lib.ListN.{length, getD};
 ghost use Rattle.lists.specs.Tables.{over};
+ghost use Rattle.answers.specs.Answers.{replyTold};
 ghost use Rattle.answers.specs.Tests.{firstBroken};
 ghost use Rattle.layout.specs.Layout.{size};
 ghost use Rattle.layout.specs.Shape.{Shape};
@@ -13,7 +14,7 @@ ghost use Rattle.testvectors.specs.Parts.{Wide};
 ghost use Rattle.value.specs.Settings.{faulty};
 ghost use Rattle.value.specs.Values.{value};
 ghost use Rattle.value.specs.Run.{run};
-ghost use Rattle.plain.specs.Calls.{tooHigh, valuesTests, valuesReply, valuesBuffer, goodReply, goodBuffer, faultReply, faultBuffer};
+ghost use Rattle.plain.specs.Calls.{tooHigh, valuesTests, valuesReply, valuesBuffer, goodTold, goodBuffer, faultTold, faultBuffer};
 ghost use Rattle.plain.specs.Saved.{Saved, FoundNode, FoundGraph};
 use answers::Answer;
 use answers::Counts;
@@ -133,7 +134,7 @@ pub fn test_values(c: Counts, faults: &[u32], room: usize) -> Verdict
 
 // The values of a card's graphs under a vector, with the faults of a list in, go into the buffer.
 fn values_with(card: &[u32], vector: &[u32], faults: &[u32], values: &mut [u32]) -> Reply
-    ensures { λ r. ⌜ (r ≡ valuesReply (now (card .entry)) (now (vector .entry)) (now (faults .entry)) (now (values .entry)))
+    ensures { λ r. ⌜ (replyTold r ≡ replyTold (valuesReply (now (card .entry)) (now (vector .entry)) (now (faults .entry)) (now (values .entry))))
         × (now (values .exit) ≡ valuesBuffer (now (card .entry)) (now (vector .entry)) (now (faults .entry)) (now (values .entry))) ⌝ }
 {
     match opening::open_vector(card, vector) {
@@ -150,7 +151,7 @@ fn values_with(card: &[u32], vector: &[u32], faults: &[u32], values: &mut [u32])
 
 // Good values: one word 0 or 1 for each graph.
 pub fn good_values(card: &[u32], vector: &[u32], values: &mut [u32]) -> Reply
-    ensures { λ r. ⌜ (r ≡ goodReply (now (card .entry)) (now (vector .entry)) (now (values .entry)))
+    ensures { λ r. ⌜ (replyTold r ≡ goodTold (now (card .entry)) (now (vector .entry)) (now (values .entry)))
         × (now (values .exit) ≡ goodBuffer (now (card .entry)) (now (vector .entry)) (now (values .entry))) ⌝ }
 {
     let none = [0u32; 1];
@@ -159,7 +160,7 @@ pub fn good_values(card: &[u32], vector: &[u32], values: &mut [u32]) -> Reply
 
 // Values with one fault in.
 pub fn fault_values(card: &[u32], vector: &[u32], fault: u32, values: &mut [u32]) -> Reply
-    ensures { λ r. ⌜ (r ≡ faultReply (now (card .entry)) (now (vector .entry)) fault (now (values .entry)))
+    ensures { λ r. ⌜ (replyTold r ≡ faultTold (now (card .entry)) (now (vector .entry)) fault (now (values .entry)))
         × (now (values .exit) ≡ faultBuffer (now (card .entry)) (now (vector .entry)) fault (now (values .entry))) ⌝ }
 {
     let one = [fault];

@@ -2,6 +2,7 @@
 use mathlib.Core.Path.{sym, _∙_}
 use borrow.Author.Needs.{needs}
 use Rattle.answers.proofs.Calls.{call-stops, call-breaks, call-done}
+use Rattle.answers.proofs.Answers.{reply-told}
 use Rattle.opening.proofs.Laws.{vector-asks}
 use Rattle.changes.specs.Calls.{criticalTests}
 use Rattle.changes.proofs.Laws.{critical-room}
@@ -12,8 +13,8 @@ returns : tie.Need-returns
 returns c =
     let at-tests = c .before .before .before in
     let at-c = at-tests .before .before in
-    call-breaks _ _ (criticalTests _) _ _ _ (sym (at-c .before .before .open-vector .ensures) ∙ at-c .c .given .1)
-    (sym (at-tests .test-critical .ensures) ∙ c .before .rule2 .given .1)
+    reply-told (call-breaks _ _ (criticalTests _) _ _ _ (sym (at-c .before .before .open-vector .ensures) ∙ at-c .c .given .1)
+    (sym (at-tests .test-critical .ensures) ∙ c .before .rule2 .given .1))
 
 work-out-critical-requires : tie.Need-work-out-critical-requires
 work-out-critical-requires c κs =
@@ -23,7 +24,7 @@ work-out-critical-requires c κs =
     (w .0, w .1, critical-room _ _ (sym (at-tests .test-critical .ensures) ∙ c .before .enum-told .given .1))
 
 returns-2 : tie.Need-returns-2
-returns-2 c = call-stops _ _ (criticalTests _) _ _ _ (sym (c .before .before .before .open-vector .ensures) ∙ c .before .rule .given .1)
+returns-2 c = reply-told (call-stops _ _ (criticalTests _) _ _ _ (sym (c .before .before .before .open-vector .ensures) ∙ c .before .rule .given .1))
 
 returns-3 : tie.Need-returns-3
 returns-3 c =
@@ -33,7 +34,7 @@ returns-3 c =
     let at-c = at-tests .before .before in
     let d = call-done _ _ (criticalTests _) _ _ _ (sym (at-c .before .before .open-vector .ensures) ∙ at-c .c .given .1)
     (sym (at-tests .test-critical .ensures) ∙ at-sound .enum-told .given .1) in
-    (d .0, rw (at-work .work-out-critical .ensures) (d .1))
+    reply-told (d .0, rw (at-work .work-out-critical .ensures) (d .1))
 
 pub critical-nodes-spec : {M : Type 1} → statement M
 critical-nodes-spec =
