@@ -17,15 +17,17 @@ use Rattle.answers.specs.declared.Counts.{Counts}
 use Rattle.answers.specs.declared.Verdict.{Verdict}
 use Rattle.answers.specs.declared.Verdict.the-variants.{Sound, Broken}
 use Rattle.answers.specs.declared.Answer.the-variants as answer
+use Rattle.answers.specs.declared.Reply.{Reply}
 use Rattle.answers.specs.declared.Reply.the-variants as reply
-use Rattle.answers.specs.Answers.{numberOf}
+use Rattle.answers.specs.Answers.{numberOf, replyTold}
+use Rattle.answers.proofs.Answers.{same-reply}
 use Rattle.form.specs.Check.{checked}
 use Rattle.answers.specs.Tests.{andThen}
 use Rattle.form.proofs.Checked.{check-accepts}
 use Rattle.answers.specs.Calls.{callTests, replied, written, doneBy}
 use Rattle.testvectors.specs.Vectors.{listVerdict}
 use Rattle.detect.specs.Grading.{mark, tally, marked}
-use Rattle.grade.specs.Calls.{gradeTests, gradeReply, marksBuffer, talliesBuffer}
+use Rattle.grade.specs.Calls.{gradeTests, gradeReply, gradeTold, marksBuffer, talliesBuffer}
 use Rattle.report.specs.Text.{shortLine, longLine, refusedLine, faultLine, faultLines, gradingText}
 use Rattle.report.specs.Report.{unlessBroken, gradedText, wordCount, cardBytes, vectorBytes, textOf, bytesWanted}
 
@@ -124,21 +126,23 @@ module _ (ws xs : List ℕ) where
         then-nothing Sound = refl
         then-nothing (Broken r p) = refl
 
-    reply-is : gradeReply ws xs b ≡ doneBy (listVerdict (c .inputs) xs) (marked ws c xs)
+    reply-is : (a : Reply) → replyTold a ≡ gradeTold ws xs b → doneBy (listVerdict (c .inputs) xs) (marked ws c xs) ≡ a
     unfolding replied
-    reply-is = rw (e, tests-are)
+    reply-is a t = rw (same-reply a (gradeReply ws xs b) t, e, tests-are)
 
-    pub list-refused : {r : Rule} {p : ℕ} → gradeReply ws xs b ≡ reply.Refused r p → gradedText ws xs ≡ refusedLine (numberOf r) p
+    pub list-refused : {a : Reply} {r : Rule} {p : ℕ} → replyTold a ≡ gradeTold ws xs b → a ≡ reply.Refused r p
+        → gradedText ws xs ≡ refusedLine (numberOf r) p
     unfolding gradedText
-    list-refused {r} {p} q = rw e (go (listVerdict (c .inputs) xs) (sym reply-is ∙ q))
+    list-refused {a} {r} {p} t q = rw e (go (listVerdict (c .inputs) xs) (reply-is a t ∙ q))
       where
         go : (v : Verdict) → doneBy v (marked ws c xs) ≡ reply.Refused r p
             → unlessBroken v (gradingText c (mark ws c xs) (tally ws c xs) (marked ws c xs)) ≡ refusedLine (numberOf r) p
         go Sound z = let f : _≡_ {A = ℕ} 0 1 = cc in absurd (omega arith)
         go (Broken r′ p′) z = let f : r′ ≡ r = cc in let g : p′ ≡ p = cc in rw (f, g)
 
-    pub list-sound : {n : ℕ} → gradeReply ws xs b ≡ reply.Done n → (listVerdict (c .inputs) xs ≡ Sound) × (n ≡ marked ws c xs)
-    list-sound {n} q = go (listVerdict (c .inputs) xs) (sym reply-is ∙ q)
+    list-sound : {a : Reply} {n : ℕ} → replyTold a ≡ gradeTold ws xs b → a ≡ reply.Done n
+        → (listVerdict (c .inputs) xs ≡ Sound) × (n ≡ marked ws c xs)
+    list-sound {a} {n} t q = go (listVerdict (c .inputs) xs) (reply-is a t ∙ q)
       where
         go : (v : Verdict) → doneBy v (marked ws c xs) ≡ reply.Done n → (v ≡ Sound) × (n ≡ marked ws c xs)
         go Sound z = (refl, cc)
@@ -184,11 +188,11 @@ lines-next m t f = rw add-one
 pub few-faults : (ws : List ℕ) {c : Counts} → checked ws ≡ answer.Accepted c → c .faults ≤ 10240
 few-faults ws {c} e = let s = check-accepts ws 0 c e .shape in omega (arith, s .all-faults, s .few-nodes, s .few-graphs)
 
-pub graded-told : (ws xs : List ℕ) {c : Counts} → checked ws ≡ answer.Accepted c → (b d ms ts : List ℕ) (n : ℕ)
-    → c .faults ≤ length b → c .faults ≤ length d → gradeReply ws xs b ≡ reply.Done n → ms ≡ marksBuffer ws xs b → ts ≡ talliesBuffer ws xs d
-    → gradedText ws xs ≡ gradingText c (λ f. getD ms f 0) (λ f. getD ts f 0) n
-graded-told ws xs {c} e b d ms ts n p q r m t =
-    let (v, z) = list-sound ws xs e b p r in
+pub graded-told : (ws xs : List ℕ) {c : Counts} → checked ws ≡ answer.Accepted c → (b d ms ts : List ℕ) {a : Reply} (n : ℕ)
+    → c .faults ≤ length b → c .faults ≤ length d → replyTold a ≡ gradeTold ws xs b → a ≡ reply.Done n
+    → ms ≡ marksBuffer ws xs b → ts ≡ talliesBuffer ws xs d → gradedText ws xs ≡ gradingText c (λ f. getD ms f 0) (λ f. getD ts f 0) n
+graded-told ws xs {c} e b d ms ts n p q told r m t =
+    let (v, z) = list-sound ws xs e b p told r in
     graded-done ws xs e v
     ∙ rw (← z) (grading-same c (mark ws c xs) (λ f. getD ms f 0) (tally ws c xs) (λ f. getD ts f 0) n
     (λ f l. sym (rw (m ∙ marks-are ws xs e b p v) (over-at (mark ws c xs) b (c .faults) f l)))

@@ -1,10 +1,8 @@
 -- `report::report_accepted` meets its contract. Assumes nothing.
 use Rattle.report.proofs.report_accepted.Tie as tie
 use Rattle.report.proofs.Cases.{list-refused, graded-told, few-faults}
-use Rattle.answers.proofs.Answers.{same-reply}
 use Rattle.report.proofs.report_accepted.Statement.{statement}
 use borrow.Author.Needs.{needs}
-use mathlib.Core.Path.{sym, _∙_}
 use native.Mathlib.Omega.{arith}
 
 put-grading-requires : tie.Need-put-grading-requires
@@ -24,9 +22,8 @@ returns c =
     let m = at-rule .before .before .before in
     let e = m .before .before .before .before .before .before .pre .0 in
     let b = m .before .before .fault-table in
-    let q = sym (same-reply _ _ (m .first-marking .ensures .0)) ∙ at-rule .rule .given .1 in
-    rw (list-refused _ _ e (b .result) (omega (arith, few-faults _ e, b .ensures)) q, ← c .before .before .before .rule-number .ensures)
-    (c .before .before .put-refused .ensures)
+    let q = list-refused _ _ e (b .result) (omega (arith, few-faults _ e, b .ensures)) (m .first-marking .ensures .0) (at-rule .rule .given .1) in
+    rw (q, ← c .before .before .before .rule-number .ensures) (c .before .before .put-refused .ensures)
 
 returns-2 : tie.Need-returns-2
 returns-2 c =
@@ -36,8 +33,10 @@ returns-2 c =
     let f = few-faults _ e in
     let b = m .before .before .fault-table in
     let d = t .before .before .fault-table2 in
-    let q = sym (same-reply _ _ (m .first-marking .ensures .0)) ∙ t .before .before .before .before .marked .given .1 in
-    rw (graded-told _ _ e (b .result) (d .result) _ _ _ (omega (arith, f, b .ensures)) (omega (arith, f, d .ensures)) q (m .first-marking .ensures .1) (t .tally .ensures .1))
+    let q = t .before .before .before .before .marked .given .1 in
+    let o = m .first-marking .ensures in
+    rw (graded-told _ _ e (b .result) (d .result) _ _ _ (omega (arith, f, b .ensures)) (omega (arith, f, d .ensures))
+    (o .0) q (o .1) (t .tally .ensures .1))
     (c .before .before .put-grading .ensures)
 
 pub report-accepted-spec : {M : Type 1} → statement M
