@@ -3,6 +3,7 @@ use mathlib.Core.Path.{refl}
 use mathlib.Mathlib.Data.List.Defs.{Forall}
 use Rattle.lists.specs.Tables.{chosen}
 use Rattle.form.specs.Check.{checkedWith}
+use Rattle.answers.specs.Answers.{answerTold, replyTold}
 use Rattle.answers.specs.Calls.{replied, written}
 use Rattle.layout.specs.Layout.{isInput, observable, size, reads, exits, decides}
 use Rattle.testvectors.specs.Vectors.{bit, vectorVerdict, listVerdict}
@@ -21,7 +22,7 @@ abbrev _also_ : {A B : Type 0} → A → B → A × B
 a also b = (a, b)
 
 pub starred-hold : Starred
-unfolding checkedWith replied written valuesTests changeTests criticalTests gradeTests vectorVerdict listVerdict
+unfolding checkedWith answerTold replyTold replied written valuesTests changeTests criticalTests gradeTests vectorVerdict listVerdict
     isInput observable size reads exits decides bit faulty chosen changes criticalAt mark marked criticalNode Forall
 starred-hold =
     (refl, refl, refl, refl, refl, refl, refl, refl)

@@ -1,26 +1,24 @@
--- What a row of a table of cases says. It says it twice: by the definitions that the calls' own contracts cite, of each call the reply and the lent
--- buffer after it, and by the marking rules of document 01. Assumes nothing.
+-- What a row of a table of cases says. It says it twice: by the definitions that the calls' own contracts cite, of each call what it tells and the
+-- lent buffer after it, and by the marking rules of document 01. Assumes nothing.
 use Prim.Native.Nat.{ℕ, _-_, _*_, _/_, _%_}
 use mathlib.Core.Path.{_≡_}
-use mathlib.Core.List.{List, map}
+use mathlib.Core.List.{List, [], _∷_, map}
 use mathlib.Core.Bool.{Bool, _&&_, _||_}
 use lib.ListN.{length, replicate}
 use lib.Dec.{ltb, leb, eqb}
 use Rattle.lists.specs.Counting.{choose, some-below, count}
 use Rattle.lists.specs.Tables.{at, tab, chosen, front}
 use Rattle.answers.specs.declared.Counts.{Counts}
-use Rattle.answers.specs.declared.Answer.the-variants.{Accepted}
-use Rattle.answers.specs.declared.Reply.{Reply}
-use Rattle.answers.specs.declared.Reply.the-variants.{Done}
-use Rattle.form.specs.Check.{checked}
+use Rattle.answers.specs.Answers.{Told, result, valuesOf}
+use Rattle.form.specs.Check.{checkTold}
 use Rattle.layout.specs.Layout.{first}
 use Rattle.testvectors.specs.Vectors.{bit, vectors, vector}
-use Rattle.plain.specs.Calls.{goodReply, goodBuffer}
+use Rattle.plain.specs.Calls.{goodTold, goodBuffer}
 use Rattle.detect.specs.Detects.{standsIn, detects}
 use Rattle.detect.specs.Grading.{markBy, inGrade}
 use Rattle.rules.specs.Rules.{listed, criticalNode, marksNode, marksGraph}
-use Rattle.changes.specs.Calls.{changeReply, changeBuffer, criticalReply, criticalBuffer}
-use Rattle.grade.specs.Calls.{gradeReply, marksBuffer, talliesBuffer}
+use Rattle.changes.specs.Calls.{changeTold, changeBuffer, criticalTold, criticalBuffer}
+use Rattle.grade.specs.Calls.{gradeTold, marksBuffer, talliesBuffer}
 
 -- a card under one vector: the graphs' values, the change list of each graph, the faults caught, and for each node 1 where it is critical, else 0
 pub record Case : Type 0 where
@@ -67,13 +65,13 @@ flag b = choose b 1 0
 abbrev pub lent : ℕ → List ℕ
 lent n = replicate n 5
 
--- a call with such a buffer: its reply, and the buffer after it
-abbrev pub call : (List ℕ → Reply) → (List ℕ → List ℕ) → ℕ → Reply × List ℕ
-call reply buffer n = (reply (lent n), buffer (lent n))
+-- a call with such a buffer: what it tells, and the buffer after it
+abbrev pub call : (List ℕ → Told) → (List ℕ → List ℕ) → ℕ → Told × List ℕ
+call told buffer n = (told (lent n), buffer (lent n))
 
--- the same of a call that is done, answers with the number and leaves the words ws
-abbrev pub done : ℕ → List ℕ → ℕ → Reply × List ℕ
-done number ws n = (Done number, front ws (lent n))
+-- the same of a call that is done, tells the number and leaves the words ws
+abbrev pub done : ℕ → List ℕ → ℕ → Told × List ℕ
+done number ws n = (result (number ∷ []), front ws (lent n))
 
 -- the graph in which node j stands, and its local number there
 module _ (ws : List ℕ) (c : Counts) where
@@ -104,10 +102,10 @@ CaseHolds r =
     let x = r .under in
     let G = c .graphs in
     let N = c .nodes in
-    (checked ws ≡ Accepted c)
-    × (call (goodReply ws x) (goodBuffer ws x) G ≡ done 0 (r .values) G)
-    × (map (λ g. call (changeReply ws x g) (changeBuffer ws x g) G) (numbers G) ≡ map (λ l. done (length l) l G) (r .changes))
-    × (call (criticalReply ws x) (criticalBuffer ws x) N ≡ done 0 (r .critical) N)
+    (checkTold ws ≡ result (valuesOf c))
+    × (call (goodTold ws x) (goodBuffer ws x) G ≡ done 0 (r .values) G)
+    × (map (λ g. call (changeTold ws x g) (changeBuffer ws x g) G) (numbers G) ≡ map (λ l. done (length l) l G) (r .changes))
+    × (call (criticalTold ws x) (criticalBuffer ws x) N ≡ done 0 (r .critical) N)
     × (chosen (detects ws c x) (c .faults) ≡ r .caught)
     × (map (byRule2 ws c x) (numbers G) ≡ r .changes)
     × (tab (λ j. flag (byRule4 ws c x j)) N ≡ r .critical)
@@ -122,9 +120,9 @@ GradingHolds r =
     let F = c .faults in
     let n = vectors (c .inputs) xs in
     let marks : ℕ → ℕ → Bool = λ f t. byRule5 ws c (vector (c .inputs) xs t) f in
-    (checked ws ≡ Accepted c)
-    × (call (gradeReply ws xs) (marksBuffer ws xs) F ≡ done (r .marked) (r .marks) F)
-    × (call (gradeReply ws xs) (talliesBuffer ws xs) F ≡ done (r .marked) (r .tallies) F)
+    (checkTold ws ≡ result (valuesOf c))
+    × (call (gradeTold ws xs) (marksBuffer ws xs) F ≡ done (r .marked) (r .marks) F)
+    × (call (gradeTold ws xs) (talliesBuffer ws xs) F ≡ done (r .marked) (r .tallies) F)
     × (count (λ f. inGrade ws c xs f && some-below (marks f) n) F ≡ r .marked)
     × (tab (λ f. markBy (marks f) n) F ≡ r .marks)
     × (tab (λ f. count (marks f) n) F ≡ r .tallies)
@@ -134,8 +132,8 @@ abbrev pub FunctionHolds : Function → Type 0
 FunctionHolds r =
     let ws = r .card in
     let G = r .counts .graphs in
-    (checked ws ≡ Accepted (r .counts))
-    × (map (λ x. goodReply ws x (lent G)) (r .under) ≡ map (λ x. Done 0) (r .under))
+    (checkTold ws ≡ result (valuesOf (r .counts)))
+    × (map (λ x. goodTold ws x (lent G)) (r .under) ≡ map (λ x. result (0 ∷ [])) (r .under))
     × (map (λ x. at (goodBuffer ws x (lent G)) (r .graph)) (r .under) ≡ map (λ x. flag (r .computes (λ i. eqb (bit x i) 1))) (r .under))
 
 -- WHAT A ROW SAYS
