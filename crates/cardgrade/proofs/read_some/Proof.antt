@@ -1,0 +1,20 @@
+-- `cardgrade::read_some` meets its contract. The room keeps its length from try to try. Assumes nothing.
+use Rattle.cardgrade.proofs.read_some.Tie as tie
+use Rattle.cardgrade.proofs.read_some.Statement.{statement}
+use borrow.Author.Needs.{needs}
+use Prim.Native.Nat.{_≤_, _-_}
+use lib.ListN.{length}
+use mathlib.Core.Path.{_≡_}
+
+abbrev Inv-loop : tie.InvT-loop
+Inv-loop room₀ tries₀ room tries = (tries ≤ 100) × (length room ≡ length room₀)
+
+abbrev μ-loop : tie.MeasureT-loop
+μ-loop room₀ tries₀ room tries = 100 - tries
+
+pub read-some-spec : {M : Type 1} → statement M
+read-some-spec =
+    tie.close
+    (tie.spec Inv-loop μ-loop (λ c. search needs) (λ c κs. search needs) (λ c κs. search needs) (λ c. search needs) (λ c. search needs)
+    (λ c κs. search needs) (λ c. search needs) (λ c. search needs) (λ c. search needs) (λ c. search needs) (λ c. search needs) (λ c. search needs)
+    (λ c. search needs))
