@@ -1,4 +1,5 @@
 -- `hostcheck::test_check` meets its contract. Assumes nothing.
+use native.Mathlib.Omega.{arith}
 use borrow.Author.Tests.{lt-ltb, le-ltb}
 use Rattle.hostcheck.specs.Calls.{checkTests}
 use Rattle.hostcheck.proofs.test_check.Statement.{statement}
@@ -6,11 +7,11 @@ use Rattle.hostcheck.proofs.test_check.Tie as tie
 
 returns : tie.Need-returns
 unfolding checkTests
-returns c = rw (lt-ltb _ _ (c .if1 .taken))
+returns c = rw (lt-ltb (c .before .args .room) 5 (omega (arith, c .if1 .taken)))
 
 returns-2 : tie.Need-returns-2
 unfolding checkTests
-returns-2 c = rw (le-ltb _ _ (c .if1 .left))
+returns-2 c = rw (le-ltb (c .before .args .room) 5 (omega (arith, c .if1 .left)))
 
 pub test-check-spec : {M : Type 1} → statement M
 test-check-spec = tie.close (tie.spec returns returns-2)

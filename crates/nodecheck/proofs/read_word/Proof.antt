@@ -1,4 +1,5 @@
 -- `nodecheck::read_word` meets its contract. Assumes nothing.
+use native.Mathlib.Omega.{arith}
 use borrow.Author.Tests.{le-leb, lt-leb, eq-eqb, ne-eqb}
 use borrow.Author.Needs.{needs}
 use Rattle.form.specs.Check.{readVerdict}
@@ -20,14 +21,34 @@ unfolding readVerdict
 returns-3 c = λ ws h e.
     let at-if-2 = c .before .before in
     let at-if-1 = at-if-2 .before .before in
-    rw (lt-leb _ _ h, ← e, ← at-if-1 .before .kind .ensures, eq-eqb _ _ (at-if-1 .if1 .left), ← at-if-2 .before .read-spare .ensures, eq-eqb _ _ (at-if-2 .if2 .left), ← c .before .read-graph .ensures, le-leb _ _ (c .if3 .taken))
+    let too-high = le-leb (at-if-1 .before .before .args .g) (c .before .read-graph .result) (omega (arith, c .if3 .taken)) in
+    rw (
+      lt-leb _ _ h,
+      ← e,
+      ← at-if-1 .before .kind .ensures,
+      eq-eqb _ _ (at-if-1 .if1 .left),
+      ← at-if-2 .before .read-spare .ensures,
+      eq-eqb _ _ (at-if-2 .if2 .left),
+      ← c .before .read-graph .ensures,
+      too-high,
+    )
 
 returns-4 : tie.Need-returns-4
 unfolding readVerdict
 returns-4 c = λ ws h e.
     let at-if-2 = c .before .before in
     let at-if-1 = at-if-2 .before .before in
-    rw (lt-leb _ _ h, ← e, ← at-if-1 .before .kind .ensures, eq-eqb _ _ (at-if-1 .if1 .left), ← at-if-2 .before .read-spare .ensures, eq-eqb _ _ (at-if-2 .if2 .left), ← c .before .read-graph .ensures, lt-leb _ _ (c .if3 .left))
+    let lower = lt-leb (at-if-1 .before .before .args .g) (c .before .read-graph .result) (omega (arith, c .if3 .left)) in
+    rw (
+      lt-leb _ _ h,
+      ← e,
+      ← at-if-1 .before .kind .ensures,
+      eq-eqb _ _ (at-if-1 .if1 .left),
+      ← at-if-2 .before .read-spare .ensures,
+      eq-eqb _ _ (at-if-2 .if2 .left),
+      ← c .before .read-graph .ensures,
+      lower,
+    )
 
 pub read-word-spec : {M : Type 1} → statement M
 read-word-spec =
