@@ -590,7 +590,7 @@ BENCH = [
     ("rand-deep", 4096), ("rand-deeper", 4096), ("rand-chaos", 4096),
     ("rand-wide", 2048),
     ("rand-wider", 1024), ("rand-funnel", 2048), ("rand-any", 4096),
-    ("rand-bulky", 4096),
+    ("rand-bulky", 4096), ("worst", 4096),
 ]
 
 

@@ -24,7 +24,7 @@
  *
  *   no.  when                                                          position
  *    1   card over 9,216 whole words                                   0
- *    2   any word where the header of graph 1,025 is due               that word
+ *    2   any word where the header of a 1,025th graph is due           that word
  *    3   a header's node count is 0, or takes the nodes over 4,096     the header
  *    4   kind not due there, an input after an output, or the words    the word, or
  *        end inside a graph; also a card's leftover bytes              the word count

@@ -58,8 +58,8 @@ unfolding openingOf
 graph-opened Sound w at h e = (refl, cc)
 graph-opened (Broken r p) w at h e = let z : _≡_ {A = ℕ} 0 1 = cc in absurd (omega arith)
 
-pub same-answer : (a b : Answer) → graph.Over a ≡ graph.Over b → a ≡ b
-same-answer a b e = cc
+pub same-end : (a b : Answer) → graph.Over a ≡ graph.Over b → a ≡ b
+same-end a b e = cc
 
 pub same-counts : (c d : Counts) → graph.Read c ≡ graph.Read d → c ≡ d
 same-counts c d e = cc

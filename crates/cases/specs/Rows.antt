@@ -1,5 +1,5 @@
--- What a row of a table of cases says. It says it twice: by the definitions that the calls' own contracts cite, of each call what it tells and the
--- lent buffer after it, and by the marking rules of document 01. Assumes nothing.
+-- What a row of a table of cases says: what the calls tell and leave in a lent buffer, by the definitions that their own contracts cite; and of a
+-- case and of a grading the same by the marking rules of document 01. Assumes nothing.
 use Prim.Native.Nat.{ℕ, _-_, _*_, _/_, _%_}
 use mathlib.Core.Path.{_≡_}
 use mathlib.Core.List.{List, [], _∷_, map}

@@ -1,5 +1,5 @@
 // Whether a graph is critical, by a change walk that leaves out what it can: it starts at the lowest reader of the graph, ends past the highest reader
-// of the listed graphs or at the first observable one among them, and puts back only what it altered.
+// of the listed graphs or at the first observable one among them, and puts back only what it may have altered.
 ghost use mathlib.Core.Path.{_≡_};
 ghost use mathlib.Core.List.{List};
 ghost use Prim.Native.Nat.{ℕ, _+_, _≤_, _<_};

@@ -9,7 +9,8 @@ use Rattle.lists.specs.Counting.{choose, some-below}
 use Rattle.answers.specs.Answers.{Told, answerTold}
 use Rattle.answers.specs.Tests.{Test, test, unless, firstBroken, andThen, onward}
 use Rattle.word32.specs.Fields.{kind, inputSpare, headerSpare, readSpare, exitsSpare, nodeCount, readGraph, exitOf}
-use Rattle.answers.specs.declared.Rule.the-variants.{CardTooLong, TooManyGraphs, NodeCount, WordNotDue, StrayBit, ReadNotBelow, ExitNotLater, NodeNotNamed, NothingObservable}
+use Rattle.answers.specs.declared.Rule.the-variants.{CardTooLong, TooManyGraphs, NodeCount, WordNotDue, StrayBit, ReadNotBelow, ExitNotLater}
+use Rattle.answers.specs.declared.Rule.the-variants.{NodeNotNamed, NothingObservable}
 use Rattle.answers.specs.declared.Counts.{Counts}
 use Rattle.answers.specs.declared.Verdict.{Verdict}
 use Rattle.answers.specs.declared.Verdict.the-variants.{Sound}

@@ -1,5 +1,5 @@
 -- A Reader that is carried through a body: it stands in a local, or behind a `&mut` that the body was passed. Each `next(&mut r)` is one step of a
--- walk, and each call that takes the Reader by `&mut` is a loan and a way home.
+-- walk, and each call that takes the Reader by `&mut` is a loan and its return.
 --     rd x n               the Reader of the words x at the position n
 --     Stands κ q x l n     it lies in the local l: the local's cell, what the Reader owns, and a share of the token of the words' lifetime κ
 --     Behind …             it lies behind a `&mut`: what the reference owns, and a share of the token of its lifetime and of κ
@@ -7,7 +7,7 @@
 --     steps                a call of `next` on a Reader that stands in a local: once it has returned, the caller has what was due at n, and the
 --                          Reader in the local again, at the position after
 --     goes-on              the same of a Reader behind a `&mut`
---     lends, home          the loan of a local's Reader for a call of any function that takes it by `&mut`, and the way home at the last value
+--     lends, home          the loan of a local's Reader for a call of any function that takes it by `&mut`, and the return at the last value
 --                          that the callee ensures
 --     relends, rehome      the same of a Reader behind a `&mut`
 -- The loan is for a lifetime ν ⊓ κ that is made for the call, since the signature asks that the words outlive the loan: the whole token of ν is met
@@ -249,7 +249,7 @@ module _ {M : Type 1} (𝓤 : URA M) (H : Heap 𝓤) (A : Atoms 𝓤) (W : Given
       join ! $ frame ! $ done !
 
 module _ {M : Type 1} {𝓤 : URA M} {H : Heap 𝓤} {A : Atoms 𝓤} {K : Type 0} {W : Given 𝓤 H A} {Γ : List (Item 𝓤)} {κ : Lft} where
-  -- `next` has returned u: the way home is taken, and the Due's machine value is written out
+  -- `next` has returned u: the Reader returns, and the Due's machine value is written out
   returned : K → (at-mem : Memory → SProp 𝓤) (run : Routine → Fun 𝓤) (q : Share) (x : RefT (List ℕ)) (n b o ν : ℕ) (δ : GName) {Kp I : Item 𝓤}
       (F : Val → Goal 𝓤 H) (u : Val) → Soaks (F u)
       → Step K W (I ∷ Γ) (F u) (‵ (Last κ x (afterAt (now x) n) δ) ∷ ‵ (flft (ν ∷ κ) (PosShare·left q)) ∷ ‵ (flft κ (PosShare·right q)) ∷ Kp ∷ Γ)

@@ -1,5 +1,5 @@
 -- The form of vectors and of lists of them: document 01, 'The card's words', and refusal 10. Assumes nothing.
--- `width`, `bit` and `carried` say how inputs stand in words; nothing outside this crate opens them.
+-- `width`, `bit` and `carried` say how inputs stand in words; no engine opens them.
 use Prim.Native.Nat.{ℕ, zero, suc, _+_, _-_, _*_, _/_, _%_, _^_, min}
 use mathlib.Core.List.{List, [], _∷_}
 use mathlib.Core.Bool.{not}

@@ -1,7 +1,7 @@
 -- `cardcheck::close_graph` meets its contract. Assumes nothing.
 use mathlib.Core.Path.{sym, _∙_}
 use borrow.Author.Needs.{needs}
-use Rattle.cardcheck.proofs.Turns.{same-graph, nodes-stops, names-stop, graph-sound, rest-stop, same-answer, same-counts, read-not-over}
+use Rattle.cardcheck.proofs.Turns.{same-graph, nodes-stops, names-stop, graph-sound, rest-stop, same-end, same-counts, read-not-over}
 use Rattle.cardcheck.proofs.close_graph.Statement.{statement}
 use Rattle.cardcheck.proofs.close_graph.Tie as tie
 
@@ -10,7 +10,7 @@ returns c = record {
   sound = λ d q. absurd (read-not-over _ _ (sym q));
   read = λ ws nr d q. absurd (read-not-over _ _ (sym q));
   over = λ ws extra s nr a q.
-      sym (same-answer _ _ q) ∙ sym (rest-stop s extra (nr .opened .inside) _ _ (nodes-stops nr _ _ (c .before .nodes .given .1)));
+      sym (same-end _ _ q) ∙ sym (rest-stop s extra (nr .opened .inside) _ _ (nodes-stops nr _ _ (c .before .nodes .given .1)));
 }
 
 returns-2 : tie.Need-returns-2
@@ -22,7 +22,7 @@ returns-2 c =
       read = λ ws nr d q. absurd (read-not-over _ _ (sym q));
       over = λ ws extra s nr a q.
           let unnamed = sym (at-take .take-unnamed .ensures .verdict ws _ (nr .names sound)) ∙ c .if1 .taken in
-          sym (same-answer _ _ q) ∙ rw (nr .opened .header) (sym (rest-stop s extra (nr .opened .inside) _ _ (names-stop nr sound unnamed)));
+          sym (same-end _ _ q) ∙ rw (nr .opened .header) (sym (rest-stop s extra (nr .opened .inside) _ _ (names-stop nr sound unnamed)));
     }
 
 returns-3 : tie.Need-returns-3
