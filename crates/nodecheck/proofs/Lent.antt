@@ -1,4 +1,4 @@
--- A `&mut` to plain data that a body was passed, lent again for a call and come back; and what a proof of a call of plain data asks.
+-- A `&mut` to plain data that a body was passed, lent again for a call and come back.
 --     Mine κ q b o γ x     what the reference owns at the value x, and a share of the token of its lifetime κ
 --     lends-on, comes-home the loan for a lifetime ν that is made for the call, and the return at the last value that the callee ensures
 -- Assumes `Given`.

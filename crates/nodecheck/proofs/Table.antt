@@ -6,10 +6,10 @@ use mathlib.Core.Bool.{Bool, true, false, not, _||_}
 use native.Mathlib.Omega.{arith}
 use native.Mathlib.Decide.{ℕ-discrete, decLt}
 use native.Mathlib.Numerals.{add-one}
-use lib.ListN.{length, getD, set, drop, replicate, length-set, length-replicate, getD-replicate}
+use lib.ListN.{length, getD, set, drop, replicate, length-set, length-replicate}
 use lib.Seq.{getD-set-same, getD-set-other, getD-append-add, getD-drop}
 use lib.Dec.{eqb}
-use borrow.Author.Tests.{lt-ltb, le-ltb, eq-eqb, ne-eqb}
+use borrow.Author.Tests.{eq-eqb, ne-eqb}
 use Rattle.lists.specs.Counting.{choose, some-below}
 use Rattle.lists.specs.Tables.{tab, over, always}
 use Rattle.lists.proofs.Tests.{some-same, some-has}
@@ -18,9 +18,6 @@ use Rattle.word32.specs.Fields.{exitOf}
 use Rattle.answers.specs.declared.Rule.{Rule}
 use Rattle.answers.specs.declared.Verdict.{Verdict}
 use Rattle.answers.specs.declared.Verdict.the-variants.{Sound, Broken}
-use Rattle.reader.specs.Due.{dueAt}
-use Rattle.reader.specs.declared.Due.{Due}
-use Rattle.reader.specs.declared.Due.the-variants as due
 use Rattle.form.specs.Check.{word, names, unnamed}
 use Rattle.nodecheck.specs.Table.{exitsTold, nameExit, Blank, Names, zeroAfter}
 use Rattle.nodecheck.specs.declared.Exits.the-variants as exits
@@ -35,22 +32,6 @@ pub bad-broken : (v : Verdict) (w : ℕ) (r : Rule) (p : ℕ) → exitsTold v w 
 unfolding exitsTold
 bad-broken Sound w r p e = let z : _≡_ {A = ℕ} 0 1 = cc in absurd (omega arith)
 bad-broken (Broken r′ p′) w r p e = cc
-
--- Whatever is due is due in some list of words; so what is told of every such list is told of one.
-abbrev pub listOf : Due → List ℕ
-listOf (due.Word w at) = replicate (suc at) w
-listOf (due.End n) = replicate n 0
-
-abbrev pub placeOf : Due → ℕ
-placeOf (due.Word w at) = at
-placeOf (due.End n) = n
-
-pub some-list : (d : Due) → d ≡ dueAt (listOf d) (placeOf d)
-unfolding dueAt
-some-list (due.Word w at) =
-    let h : at < length (replicate (suc at) w) = omega (arith, length-replicate (suc at) w) in
-    rw (lt-ltb at (length (replicate (suc at) w)) h, getD-replicate (suc at) at w 0 (omega arith))
-some-list (due.End n) = rw (length-replicate {A = ℕ} n 0, le-ltb n n (omega arith))
 
 -- an exit in the table
 pub name-none : (e : ℕ) (t : List ℕ) → e ≤ 1 → t ≡ nameExit e t

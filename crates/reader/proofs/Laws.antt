@@ -1,11 +1,12 @@
 -- What a caller learns of the words from what was due. Assumes nothing.
-use Prim.Native.Nat.{ℕ, _+_, _<_, _≤_}
+use Prim.Native.Nat.{ℕ, suc, _+_, _<_, _≤_}
 use mathlib.Core.Path.{_≡_}
 use mathlib.Core.List.{List}
 use native.Mathlib.Omega.{arith}
 use native.Mathlib.Decide.{decLt}
-use lib.ListN.{length, getD}
+use lib.ListN.{length, getD, replicate, length-replicate, getD-replicate}
 use borrow.Author.Tests.{lt-ltb, le-ltb}
+use Rattle.reader.specs.declared.Due.{Due}
 use Rattle.reader.specs.declared.Due.the-variants.{Word, End}
 use Rattle.reader.specs.Due.{dueAt, afterAt}
 
@@ -37,3 +38,19 @@ after-le ws p = elim (decLt p (length ws)) [
   | yes h ↦ rw (lt-ltb p (length ws) h) (omega arith)
   | no n ↦ rw (le-ltb p (length ws) (omega arith)) (omega arith)
 ]
+
+-- Whatever is due is due in some list of words; so what is told of every such list is told of one.
+abbrev pub listOf : Due → List ℕ
+listOf (Word w at) = replicate (suc at) w
+listOf (End n) = replicate n 0
+
+abbrev pub placeOf : Due → ℕ
+placeOf (Word w at) = at
+placeOf (End n) = n
+
+pub some-list : (d : Due) → d ≡ dueAt (listOf d) (placeOf d)
+unfolding dueAt
+some-list (Word w at) =
+    let h : at < length (replicate (suc at) w) = omega (arith, length-replicate (suc at) w) in
+    rw (lt-ltb at (length (replicate (suc at) w)) h, getD-replicate (suc at) at w 0 (omega arith))
+some-list (End n) = rw (length-replicate {A = ℕ} n 0, le-ltb n n (omega arith))

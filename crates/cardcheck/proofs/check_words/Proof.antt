@@ -308,14 +308,28 @@ module _ {M : Type 1} (𝓤 : URA M) (H : Heap 𝓤) (A : Atoms 𝓤) (W : Given
       -- [where the reader stands; the table; what the words own; _18 3; …; _17 5; …; _16 7; …; _15 9; …; _14 11; …; _13 13; …; _12 15; …; _11 17;
       -- …; _10 19; …; _9 21; …; _8 23; …; _7 25; …; _6 27; …; _5 29; …; _4's death 31; _3 32; …; _2 34; …; _1 36; …; _0 38; …]
       abbrev Cells : Counts → ℕ → List ℕ → Fml → Fml → Fml → Fml → Fml → List (Item 𝓤)
-      Cells c p tb seventeen fourteen nine eight none = Stands κ q x l₄ p ∷ Tab tb ∷ ‵ Own ∷ ‵ (froom (τ 18) l₁₈ 0) ∷ ‵ (fdies (τ 18) l₁₈)
-          ∷ ‵ seventeen ∷ ‵ (fdies (τ 17) l₁₇) ∷ ‵ (froom (τ 16) l₁₆ 0) ∷ ‵ (fdies (τ 16) l₁₆) ∷ ‵ (froom (τ 15) l₁₅ 0) ∷ ‵ (fdies (τ 15) l₁₅)
-          ∷ ‵ fourteen ∷ ‵ (fdies (τ 14) l₁₄) ∷ ‵ (froom (τ 13) l₁₃ 0) ∷ ‵ (fdies (τ 13) l₁₃) ∷ ‵ (froom (τ 12) l₁₂ 0) ∷ ‵ (fdies (τ 12) l₁₂) ∷ ‵
-          (froom (τ 11) l₁₁ 0) ∷ ‵ (fdies (τ 11) l₁₁) ∷ ‵ (froom (τ 10) l₁₀ 0) ∷ ‵ (fdies (τ 10) l₁₀) ∷ ‵ nine ∷ ‵ (fdies (τ 9) l₉) ∷ ‵ eight ∷ ‵
-          (fdies (τ 8) l₈) ∷ ‵ (froom (τ 7) l₇ 0) ∷ ‵ (fdies (τ 7) l₇) ∷ ‵ (froom (τ 6) l₆ 0) ∷ ‵ (fdies (τ 6) l₆) ∷ ‵
-          (fat fullShare (τ 5) l₅ 0 (Ct′.lowered c)) ∷ ‵ (fdies (τ 5) l₅) ∷ ‵ (fdies (τ 4) l₄) ∷ ‵ (fat fullShare (τ 3) l₃ 0 (vptr bt ot)) ∷ ‵
-          (fdies (τ 3) l₃) ∷ ‵ (fat fullShare (τ 2) l₂ 0 (vint w64 extra)) ∷ ‵ (fdies (τ 2) l₂) ∷ ‵ (fat fullShare (τ 1) l₁ 0 v) ∷ ‵
-          (fdies (τ 1) l₁) ∷ ‵ none ∷ ‵ (fdies (τ 0) l₀) ∷ []
+      Cells c p tb seventeen fourteen nine eight none =
+          Stands κ q x l₄ p ∷ Tab tb ∷ ‵ Own
+          ∷ ‵ (froom (τ 18) l₁₈ 0) ∷ ‵ (fdies (τ 18) l₁₈)
+          ∷ ‵ seventeen ∷ ‵ (fdies (τ 17) l₁₇)
+          ∷ ‵ (froom (τ 16) l₁₆ 0) ∷ ‵ (fdies (τ 16) l₁₆)
+          ∷ ‵ (froom (τ 15) l₁₅ 0) ∷ ‵ (fdies (τ 15) l₁₅)
+          ∷ ‵ fourteen ∷ ‵ (fdies (τ 14) l₁₄)
+          ∷ ‵ (froom (τ 13) l₁₃ 0) ∷ ‵ (fdies (τ 13) l₁₃)
+          ∷ ‵ (froom (τ 12) l₁₂ 0) ∷ ‵ (fdies (τ 12) l₁₂)
+          ∷ ‵ (froom (τ 11) l₁₁ 0) ∷ ‵ (fdies (τ 11) l₁₁)
+          ∷ ‵ (froom (τ 10) l₁₀ 0) ∷ ‵ (fdies (τ 10) l₁₀)
+          ∷ ‵ nine ∷ ‵ (fdies (τ 9) l₉)
+          ∷ ‵ eight ∷ ‵ (fdies (τ 8) l₈)
+          ∷ ‵ (froom (τ 7) l₇ 0) ∷ ‵ (fdies (τ 7) l₇)
+          ∷ ‵ (froom (τ 6) l₆ 0) ∷ ‵ (fdies (τ 6) l₆)
+          ∷ ‵ (fat fullShare (τ 5) l₅ 0 (Ct′.lowered c)) ∷ ‵ (fdies (τ 5) l₅)
+          ∷ ‵ (fdies (τ 4) l₄)
+          ∷ ‵ (fat fullShare (τ 3) l₃ 0 (vptr bt ot)) ∷ ‵ (fdies (τ 3) l₃)
+          ∷ ‵ (fat fullShare (τ 2) l₂ 0 (vint w64 extra)) ∷ ‵ (fdies (τ 2) l₂)
+          ∷ ‵ (fat fullShare (τ 1) l₁ 0 v) ∷ ‵ (fdies (τ 1) l₁)
+          ∷ ‵ none ∷ ‵ (fdies (τ 0) l₀)
+          ∷ []
 
       abbrev At : Stand → List (Item 𝓤)
       At i = Cells (i .going .c) (i .going .p) (i .going .tb) (room 17 l₁₇) (room 14 l₁₄) (room 9 l₉) (room 8 l₈) (room 0 l₀)

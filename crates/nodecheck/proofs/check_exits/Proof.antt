@@ -4,7 +4,8 @@ use native.Mathlib.Omega.{arith}
 use borrow.Author.Needs.{needs}
 use Rattle.answers.proofs.Tests.{not-sound}
 use Rattle.form.proofs.Verdicts.{exits-inside}
-use Rattle.nodecheck.proofs.Table.{both-sound, bad-broken, listOf, placeOf, some-list}
+use Rattle.reader.proofs.Laws.{listOf, placeOf, some-list}
+use Rattle.nodecheck.proofs.Table.{both-sound, bad-broken}
 use Rattle.nodecheck.proofs.check_exits.Statement.{statement}
 use Rattle.nodecheck.proofs.check_exits.Tie as tie
 

@@ -203,13 +203,22 @@ module _ {M : Type 1} (𝓤 : URA M) (H : Heap 𝓤) (A : Atoms 𝓤) (W : Given
       -- [the reader behind its reference; the table; _12 2; …; _11 4; …; _10 6; …; _9 8; …; _8 10; …; _7 12; …; _6 14; …; _5 16; …; _4 18; …; _3
       -- 20; …; _2 22; …; _1 24; …; _0 26; …], with nine, seven, six and none in _9, _7, _6 and _0
       abbrev Cells : ℕ → ℕ → List ℕ → Fml → Fml → Fml → Fml → List (Item 𝓤)
-      Cells k p tb nine seven six none = Behind κ′ q′ κ q x b o γ p ∷ Tab tb ∷ ‵ (froom (τ 12) l₁₂ 0) ∷ ‵ (fdies (τ 12) l₁₂) ∷ ‵
-          (froom (τ 11) l₁₁ 0) ∷ ‵ (fdies (τ 11) l₁₁) ∷ ‵ (froom (τ 10) l₁₀ 0) ∷ ‵ (fdies (τ 10) l₁₀) ∷ ‵ nine ∷ ‵ (fdies (τ 9) l₉) ∷ ‵
-          (froom (τ 8) l₈ 0) ∷ ‵ (fdies (τ 8) l₈)
-          ∷ ‵ seven ∷ ‵ (fdies (τ 7) l₇) ∷ ‵ six ∷ ‵ (fdies (τ 6) l₆) ∷ ‵ (fat fullShare (τ 5) l₅ 0 (vint w64 k)) ∷ ‵ (fdies (τ 5) l₅) ∷ ‵
-          (fat fullShare (τ 4) l₄ 0 (vptr bt ot)) ∷ ‵ (fdies (τ 4) l₄) ∷ ‵ (fat fullShare (τ 3) l₃ 0 (vint w64 n)) ∷ ‵ (fdies (τ 3) l₃)
-          ∷ ‵ (fat fullShare (τ 2) l₂ 0 (vint w64 g)) ∷ ‵ (fdies (τ 2) l₂) ∷ ‵ (fat fullShare (τ 1) l₁ 0 (vptr b o)) ∷ ‵ (fdies (τ 1) l₁)
-          ∷ ‵ none ∷ ‵ (fdies (τ 0) l₀) ∷ []
+      Cells k p tb nine seven six none =
+          Behind κ′ q′ κ q x b o γ p ∷ Tab tb
+          ∷ ‵ (froom (τ 12) l₁₂ 0) ∷ ‵ (fdies (τ 12) l₁₂)
+          ∷ ‵ (froom (τ 11) l₁₁ 0) ∷ ‵ (fdies (τ 11) l₁₁)
+          ∷ ‵ (froom (τ 10) l₁₀ 0) ∷ ‵ (fdies (τ 10) l₁₀)
+          ∷ ‵ nine ∷ ‵ (fdies (τ 9) l₉)
+          ∷ ‵ (froom (τ 8) l₈ 0) ∷ ‵ (fdies (τ 8) l₈)
+          ∷ ‵ seven ∷ ‵ (fdies (τ 7) l₇)
+          ∷ ‵ six ∷ ‵ (fdies (τ 6) l₆)
+          ∷ ‵ (fat fullShare (τ 5) l₅ 0 (vint w64 k)) ∷ ‵ (fdies (τ 5) l₅)
+          ∷ ‵ (fat fullShare (τ 4) l₄ 0 (vptr bt ot)) ∷ ‵ (fdies (τ 4) l₄)
+          ∷ ‵ (fat fullShare (τ 3) l₃ 0 (vint w64 n)) ∷ ‵ (fdies (τ 3) l₃)
+          ∷ ‵ (fat fullShare (τ 2) l₂ 0 (vint w64 g)) ∷ ‵ (fdies (τ 2) l₂)
+          ∷ ‵ (fat fullShare (τ 1) l₁ 0 (vptr b o)) ∷ ‵ (fdies (τ 1) l₁)
+          ∷ ‵ none ∷ ‵ (fdies (τ 0) l₀)
+          ∷ []
 
       abbrev room : ℕ → ℕ → Fml
       room j l = froom (τ j) l 0
