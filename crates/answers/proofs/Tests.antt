@@ -38,3 +38,14 @@ all-passed (t ∷ ts) e =
 pub onward-accepts : (v : Verdict) (a : Answer) (c : Counts) → onward v a ≡ Accepted c → (v ≡ Sound) × (a ≡ Accepted c)
 onward-accepts Sound a c e = (refl, e)
 onward-accepts (Broken r p) a c e = (cc, cc)
+
+-- and the other way: sound parts make a sound verdict, passed tests too, and sound verdicts let an answer through
+pub sound-then : {u v : Verdict} → u ≡ Sound → v ≡ Sound → andThen u v ≡ Sound
+sound-then e e′ = rw (e, e′)
+
+pub passed-sound : (ts : List Test) → Passed ts → firstBroken ts ≡ Sound
+passed-sound [] p = refl
+passed-sound (t ∷ ts) p = rw (p .0, passed-sound ts (p .1))
+
+pub accepts-onward : {v : Verdict} {a : Answer} {c : Counts} → v ≡ Sound → a ≡ Accepted c → onward v a ≡ Accepted c
+accepts-onward e e′ = rw (e, e′)

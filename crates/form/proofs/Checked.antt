@@ -8,22 +8,22 @@ use native.Mathlib.Numerals.{add-one}
 use native.Mathlib.Decide.{ℕ-discrete, decLe}
 use lib.ListN.{length}
 use lib.Dec.{ltb, eqb}
-use borrow.Author.Tests.{eqb-false, le-leb, lt-leb}
+use borrow.Author.Tests.{ltb-false, eqb-false, le-leb, lt-leb}
 use Rattle.lists.specs.Counting.{choose, count}
 use Rattle.lists.proofs.Tests.{choose-bit}
 use Rattle.lists.proofs.Counting.{count-next, count-le}
 use Rattle.word32.specs.Fields.{kind, nodeCount, readGraph, exitOf}
-use Rattle.answers.specs.declared.Rule.the-variants.{CardTooLong, WordNotDue, NothingObservable}
+use Rattle.answers.specs.declared.Rule.the-variants.{WordNotDue, NothingObservable}
 use Rattle.answers.specs.declared.Counts.{Counts}
 use Rattle.answers.specs.declared.Verdict.the-variants.{Sound}
 use Rattle.answers.specs.declared.Answer.the-variants.{Accepted}
 use Rattle.answers.specs.Tests.{test, firstBroken}
-use Rattle.form.specs.Check.{counts, place, withGraph, headerVerdict, word, readVerdict, exitsVerdict, nodesVerdict, graphVerdict, ended, rest, checkedWith}
+use Rattle.form.specs.Check.{counts, place, withGraph, headerVerdict, word, readVerdict, exitsVerdict, nodesVerdict, graphVerdict, ended, rest, longTests, checkedWith}
 use Rattle.layout.specs.Layout.{first, header, isInput, observable, size, reads, exits}
 use Rattle.layout.specs.Shape.{ReadsLower, ExitsLater, Shape, Accepts}
 use Rattle.layout.proofs.Firsts.{first-next}
 use Rattle.answers.proofs.Tests.{then-sound, all-passed, onward-accepts}
-use Rattle.form.proofs.Verdicts.{header-sound, an-input, an-output, header-few, read-lower, exits-sound, later-exits, nodes-sound}
+use Rattle.form.proofs.Verdicts.{header-sound, an-input, an-output, header-few, read-told, exits-sound, later-exits, nodes-sound}
 
 -- The graph due after those that c counts. Its header w and its words are those that the layout names.
 module _ (ws : List ℕ) (c : Counts) (s : Shape ws c) where
@@ -107,7 +107,7 @@ module _ (ws : List ℕ) (c : Counts) (s : Shape ws c) where
       output = output-more (eqb (kind w) 0) refl;
       seen = rw (add-one, count-next, observable-is) (ap (_+ choose (eqb (kind w) 2) 1 0) (s .seen));
       reads-lower = more (ReadsLower ws) (s .reads-lower) (λ k l.
-          rw (reads-is k) (read-lower ws (c .graphs) (place c + 1 + 2 * k) (node-sound k (rw size-is at l) .0)));
+          rw (reads-is k) (read-told ws (c .graphs) (place c + 1 + 2 * k) (node-sound k (rw size-is at l) .0) .lower));
       exits-later = more (ExitsLater ws) (s .exits-later) (λ k d l i z.
           rw size-is (later-exits ws (nodeCount w) k (place c + 2 + 2 * k) d l (node-sound k (rw size-is at i) .1) (sym (exits-is k d) ∙ z)));
     }
@@ -166,8 +166,32 @@ pub check-accepts : (ws : List ℕ) (extra : ℕ) (c : Counts) → checkedWith w
 unfolding checkedWith
 check-accepts ws extra c e =
     rest-accepts ws extra c 1025 (counts 0 0 0 0) (none-read ws)
-    (onward-accepts (firstBroken (test (ltb 9216 (length ws)) CardTooLong 0 ∷ [])) _ c e .1)
+    (onward-accepts (firstBroken (longTests ws)) _ c e .1)
 
 -- an accepted card has some inputs, and not too many
 pub some-inputs : {ws : List ℕ} {c : Counts} → Accepts ws c → (0 < c .inputs) × (c .inputs ≤ 1024)
 some-inputs a = omega (arith, a .some-input, a .shape .inputs-in, a .shape .few-graphs)
+
+-- a card that is accepted has no bytes after its words
+ended-whole : (ws : List ℕ) (extra : ℕ) (c d : Counts) → ended ws extra c ≡ Accepted d → extra ≡ 0
+ended-whole ws extra c d e =
+    let last = test (ltb 0 extra) WordNotDue (length ws) ∷ test (eqb (c .observable) 0) NothingObservable (length ws) ∷ [] in
+    omega (arith, ltb-false 0 extra (all-passed last (onward-accepts (firstBroken last) (Accepted c) d e .0) .0))
+
+rest-whole : (ws : List ℕ) (extra : ℕ) (d : Counts) (left : ℕ) (c : Counts) → rest ws extra left c ≡ Accepted d → extra ≡ 0
+unfolding rest
+rest-whole ws extra d zero c e = let z : _≡_ {A = ℕ} 0 1 = cc in absurd (omega arith)
+rest-whole ws extra d (suc left) c e = elim (decLe (length ws) (place c)) [
+  | yes l ↦ ended-whole ws extra c d (rw (le-leb (length ws) (place c) l) at e)
+  | no n ↦
+      let l : place c < length ws = omega arith in
+      rest-whole ws extra d left (withGraph (word ws (place c)) c) (onward-accepts (graphVerdict ws c) _ d (rw (lt-leb (length ws) (place c) l) at e) .1)
+]
+
+no-leftover : (ws : List ℕ) (extra : ℕ) (c : Counts) → checkedWith ws extra ≡ Accepted c → extra ≡ 0
+unfolding checkedWith
+no-leftover ws extra c e =
+    rest-whole ws extra c 1025 (counts 0 0 0 0) (onward-accepts (firstBroken (longTests ws)) _ c e .1)
+
+pub whole-accepted : (ws : List ℕ) (extra : ℕ) (c : Counts) → checkedWith ws extra ≡ Accepted c → checkedWith ws 0 ≡ Accepted c
+whole-accepted ws extra c e = ap (checkedWith ws) (sym (no-leftover ws extra c e)) ∙ e

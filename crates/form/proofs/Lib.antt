@@ -1,4 +1,7 @@
--- What sound verdicts and an accepting check tell, and document 01's worked examples.
+-- What sound verdicts and an accepting check tell, the same the other way round, where refusals stand, and document 01's worked examples.
 pub mod Verdicts
 pub mod Checked
+pub mod Sound
+pub mod Graphs
+pub mod Positions
 pub mod Examples

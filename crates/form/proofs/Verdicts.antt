@@ -2,20 +2,19 @@
 use Prim.Native.Nat.{ℕ, zero, suc, _+_, _*_, _<_, _≤_}
 use mathlib.Core.Path.{_≡_, refl}
 use mathlib.Core.List.{List, [], _∷_}
-use mathlib.Core.Bool.{Bool, true, false, not}
+use mathlib.Core.Bool.{Bool, true, false, not, _||_}
 use native.Mathlib.Omega.{arith}
 use native.Mathlib.Decide.{ℕ-discrete}
 use lib.ListN.{length}
 use lib.Dec.{ltb, leb, eqb}
 use borrow.Author.Tests.{ltb-false, leb-false, eqb-true, eqb-false, lt-ltb, not-false}
 use Rattle.lists.proofs.Tests.{or-false}
-use Rattle.answers.proofs.Tests.{then-sound, all-passed}
+use Rattle.answers.proofs.Tests.{Passed, then-sound, all-passed}
 use Rattle.word32.specs.Fields.{kind, inputSpare, readSpare, exitsSpare, nodeCount, readGraph, exitOf}
-use Rattle.answers.specs.declared.Rule.{Rule}
 use Rattle.answers.specs.declared.Rule.the-variants.{TooManyGraphs, StrayBit, ReadNotBelow, ExitNotLater}
 use Rattle.answers.specs.declared.Counts.{Counts}
 use Rattle.answers.specs.declared.Verdict.the-variants.{Sound}
-use Rattle.answers.specs.Tests.{test, unless, firstBroken}
+use Rattle.answers.specs.Tests.{Test, test, unless, firstBroken}
 use Rattle.form.specs.Check.{due, place, inputTests, outputTests, headerVerdict, misplaced, word, readVerdict, exitsVerdict, nodeVerdict, nodesVerdict}
 
 -- a sound header w: of an input it is all zero, of an output it counts some nodes and not too many
@@ -52,30 +51,49 @@ later-exit n k l e =
     let (p, q) = or-false (leb (suc (suc l)) (k + 2)) (leb (n + 2) (suc (suc l))) (rw (lt-ltb 1 (suc (suc l)) (omega arith)) at e) in
     omega (arith, leb-false (suc (suc l)) (k + 2) p, leb-false (n + 2) (suc (suc l)) q)
 
--- sound nodes: a word due that is not wrong, a read, both exits, and all nodes from local node k on
+-- the word at p is a read in graph g
+pub record Read (ws : List ℕ) (g p : ℕ) : Type 0 where
+  pub there : p < length ws
+  pub due : kind (word ws p) ≡ 3
+  pub clean : readSpare (word ws p) ≡ 0
+  pub lower : readGraph (word ws p) < g
+
+-- the tests of a read w in graph g, and of exits w, that stand at p
+abbrev pub readTests : ℕ → ℕ → ℕ → List Test
+readTests g w p = test (not (eqb (readSpare w) 0)) StrayBit p ∷ test (leb g (readGraph w)) ReadNotBelow p ∷ []
+
+abbrev pub exitsTests : ℕ → ℕ → ℕ → ℕ → List Test
+exitsTests n k w p =
+    test (not (eqb (exitsSpare w) 0)) StrayBit p ∷ test (misplaced n k (exitOf w 0) || misplaced n k (exitOf w 1)) ExitNotLater p ∷ []
+
+-- sound nodes: a word due, a read, both exits, and all nodes from local node k on
 module _ (ws : List ℕ) where
-  word-sound : (p k : ℕ) (stray wrong : Bool) (r : Rule) → firstBroken (due ws p k (test stray StrayBit p ∷ test wrong r p ∷ [])) ≡ Sound
-      → (p < length ws) × (wrong ≡ false)
-  word-sound p k stray wrong r e =
-      let t = all-passed (due ws p k (test stray StrayBit p ∷ test wrong r p ∷ [])) e in
-      (leb-false (length ws) p (t .0), t .1 .1 .1 .0)
+  pub due-told : (p k : ℕ) (ts : List Test) → firstBroken (due ws p k ts) ≡ Sound → (p < length ws) × ((kind (word ws p) ≡ k) × Passed ts)
+  due-told p k ts e =
+      let t = all-passed (due ws p k ts) e in
+      (leb-false (length ws) p (t .0), (eqb-true (kind (word ws p)) k (not-false _ (t .1 .0)), t .1 .1))
 
-  pub read-lower : (g p : ℕ) → readVerdict ws g p ≡ Sound → readGraph (word ws p) < g
+  pub read-told : (g p : ℕ) → readVerdict ws g p ≡ Sound → Read ws g p
   unfolding readVerdict
-  read-lower g p e =
-      leb-false g (readGraph (word ws p))
-      (word-sound p 3 (not (eqb (readSpare (word ws p)) 0)) (leb g (readGraph (word ws p))) ReadNotBelow e .1)
+  read-told g p e =
+      let (l, (z, t)) = due-told p 3 (readTests g (word ws p) p) e in
+      record {
+        there = l;
+        due = z;
+        clean = eqb-true (readSpare (word ws p)) 0 (not-false _ (t .0));
+        lower = leb-false g (readGraph (word ws p)) (t .1 .0);
+      }
 
-  pub read-there : (g p : ℕ) → readVerdict ws g p ≡ Sound → p < length ws
-  unfolding readVerdict
-  read-there g p e = word-sound p 3 (not (eqb (readSpare (word ws p)) 0)) (leb g (readGraph (word ws p))) ReadNotBelow e .0
+  pub exits-told : (n k p : ℕ) → exitsVerdict ws n k p ≡ Sound
+      → (p < length ws) × ((kind (word ws p) ≡ 4) × Passed (exitsTests n k (word ws p) p))
+  unfolding exitsVerdict
+  exits-told n k p e = due-told p 4 (exitsTests n k (word ws p) p) e
 
   pub exits-sound : (n k p : ℕ) → exitsVerdict ws n k p ≡ Sound
       → (p < length ws) × ((misplaced n k (exitOf (word ws p) 0) ≡ false) × (misplaced n k (exitOf (word ws p) 1) ≡ false))
-  unfolding exitsVerdict
   exits-sound n k p e =
-      let (l, t) = word-sound p 4 (not (eqb (exitsSpare (word ws p)) 0)) _ ExitNotLater e in
-      (l, or-false (misplaced n k (exitOf (word ws p) 0)) _ t)
+      let (l, (z, t)) = exits-told n k p e in
+      (l, or-false (misplaced n k (exitOf (word ws p) 0)) _ (t .1 .0))
 
   pub later-exits : (n k p d l : ℕ) → exitsVerdict ws n k p ≡ Sound → exitOf (word ws p) d ≡ suc (suc l) → (k < l) × (l < n)
   later-exits n k p zero l e z = later-exit n k l (rw z at (exits-sound n k p e .1 .0))

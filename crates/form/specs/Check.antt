@@ -129,10 +129,14 @@ module _ (ws : List ℕ) where
       either (leb (length ws) (place c)) (ended extra c)
       (onward (graphVerdict c) (rest extra left (withGraph (word (place c)) c)))
 
+  -- rule 1: the words are not too many
+  abbrev pub longTests : List Test
+  longTests = test (ltb 9216 (length ws)) CardTooLong 0 ∷ []
+
   -- a card of these words and `extra` bytes more
   unfoldable pub checkedWith : ℕ → Answer
   unfolding rest
-  checkedWith extra = onward (firstBroken (test (ltb 9216 (length ws)) CardTooLong 0 ∷ [])) (rest extra 1025 (counts 0 0 0 0))
+  checkedWith extra = onward (firstBroken longTests) (rest extra 1025 (counts 0 0 0 0))
 
   -- THE CHECK of a card
   abbrev pub checked : Answer

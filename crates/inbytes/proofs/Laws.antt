@@ -28,7 +28,8 @@ use Rattle.testvectors.proofs.Laws.{vector-long}
 use Rattle.inbytes.specs.Calls.{hostCheck, leftover, hostForm}
 use Rattle.inbytes.specs.Opened.{hostOpened, WordsIn}
 use Rattle.inbytes.proofs.Form.{form-whole}
-use Rattle.inbytes.proofs.Positions.{Low, LowAnswer, LowTests, tests-low, then-low, onward-low, check-low, vector-low, list-low}
+use Rattle.form.proofs.Positions.{Low, LowAnswer, LowTests, tests-low, then-low, onward-low, check-low, low-position, check-position}
+use Rattle.inbytes.proofs.Positions.{vector-low, list-low}
 
 -- a buffer whose front was filled from bytes, and that front as a slice
 pub words-in : (b d words : List ℕ) → length b / 4 ≤ length d → words ≡ over (length b / 4) (wordAt b) d → WordsIn b words
@@ -82,12 +83,13 @@ module _ (verdict : ℕ → List ℕ → Verdict) (card v : List ℕ) {c : Count
       then-sound (leftover v) (verdict (c .inputs) (wordsOf v)) (opened-accepted (hostCheck card) (λ c. hostForm verdict (c .inputs) v) e .1) .1
 
 -- refusals stand below 2 ^ 32
-low-position : (a : Answer) {r : Rule} {p : ℕ} → LowAnswer 4294967295 a → a ≡ Refused r p → p < 4294967296
-low-position a h e = let q = rw e at h in omega arith
-
 pub card-low : (card : List ℕ) {r : Rule} {p : ℕ} → hostCheck card ≡ Refused r p → p < 4294967296
 unfolding hostCheck
 card-low card e = low-position (hostCheck card) (check-low (wordsOf card) (length card % 4)) e
+
+pub card-position : (card : List ℕ) {r : Rule} {p : ℕ} → hostCheck card ≡ Refused r p → p ≤ 134348800
+unfolding hostCheck
+card-position card e = check-position (wordsOf card) (length card % 4) e
 
 module _ (verdict : ℕ → List ℕ → Verdict) (low : (m : ℕ) (xs : List ℕ) → m ≤ 1024 → Low 4294967295 (verdict m xs)) where
   open-low : (card v : List ℕ) {r : Rule} {p : ℕ} → hostOpened verdict card v ≡ Refused r p → p < 4294967296

@@ -2,14 +2,16 @@
 use Prim.Native.Nat.{ℕ, zero, suc, _+_, _-_, _*_, _<_, _≤_}
 use mathlib.Core.Path.{_≡_, refl, ap}
 use mathlib.Core.List.{List}
+use mathlib.Core.Bool.{true, false}
 use native.Mathlib.Omega.{arith}
 use native.Mathlib.Nat.{add-zero, add-suc}
 use native.Mathlib.Decide.{ℕ-discrete, decLt}
 use native.Mathlib.Numerals.{add-one}
 use lib.ListN.{length, getD}
-use Rattle.word32.specs.Fields.{nodeCount}
+use borrow.Author.Tests.{eqb-true, ne-eqb}
+use Rattle.word32.specs.Fields.{kind, nodeCount}
 use Rattle.answers.specs.declared.Counts.{Counts}
-use Rattle.layout.specs.Layout.{first, size, decided, decides}
+use Rattle.layout.specs.Layout.{first, header, isInput, observable, size, decided, decides}
 use Rattle.layout.specs.Shape.{Shape}
 
 module _ (ws : List ℕ) where
@@ -61,3 +63,8 @@ module _ {ws : List ℕ} {c : Counts} (s : Shape ws c) where
 pub decides-bit : (ws : List ℕ) (g k r : ℕ) → r < 2 → decides ws g k r < 2
 unfolding decides decided
 decides-bit ws g k r h = h
+
+-- an input is not observable
+pub input-hidden : (ws : List ℕ) (g : ℕ) → isInput ws g ≡ true → observable ws g ≡ false
+unfolding isInput observable
+input-hidden ws g e = let z = eqb-true (kind (header ws g)) 0 e in ne-eqb (kind (header ws g)) 2 (λ q. omega arith)

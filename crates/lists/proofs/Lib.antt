@@ -3,3 +3,5 @@ pub mod Tests
 pub mod Counting
 pub mod Net
 pub mod Tables
+pub mod Each
+pub mod Front

@@ -1,8 +1,9 @@
 -- Tests: laws of Bool, of `eqb` and of `some-below`. Assumes nothing.
-use Prim.Native.Nat.{ℕ, zero, suc, _<_}
+use Prim.Native.Nat.{ℕ, zero, suc, _+_, _<_}
 use mathlib.Core.Path.{_≡_, refl, sym, ap, ap₂, _∙_}
-use mathlib.Core.Bool.{Bool, true, false, not, _&&_, _||_, true≢false, false≢true}
+use mathlib.Core.Bool.{Bool, true, false, not, _&&_, _||_, true≢false, false≢true, or-assoc, or-comm}
 use native.Mathlib.Omega.{arith}
+use native.Mathlib.Nat.{add-zero, add-suc}
 use native.Mathlib.Decide.{ℕ-discrete}
 use lib.Dec.{eqb}
 use borrow.Author.Tests.{eq-eqb, ne-eqb, eqb-true}
@@ -79,6 +80,16 @@ pub some-none : (p : ℕ → Bool) (n : ℕ) → ((k : ℕ) → k < n → p k �
 unfolding some-below
 some-none p zero h = refl
 some-none p (suc n) h = ap₂ _||_ (some-none p n (λ k l. h k (omega arith))) (h n (omega arith))
+
+-- n numbers from a on pass one test as those from b on pass another, which none below b passes
+pub some-shifted : (p q : ℕ → Bool) (a b n : ℕ) → ((i : ℕ) → i < n → p (a + i) ≡ q (b + i)) → ((k : ℕ) → k < b → q k ≡ false)
+    → some-below p (a + n) ≡ some-below p a || some-below q (b + n)
+unfolding some-below
+some-shifted p q a b zero h none = rw (add-zero a, add-zero b, some-none q b none) (or-comm false (some-below p a))
+some-shifted p q a b (suc n) h none =
+    rw (add-suc a n, add-suc b n)
+    (ap₂ _||_ (some-shifted p q a b n (λ i l. h i (omega arith)) none) (h n (omega arith))
+    ∙ or-assoc (some-below p a) (some-below q (b + n)) (q (b + n)))
 
 pub some-has : (p : ℕ → Bool) (n k : ℕ) → k < n → p k ≡ true → some-below p n ≡ true
 unfolding some-below

@@ -18,7 +18,7 @@ use Rattle.answers.specs.declared.Verdict.{Verdict}
 use Rattle.answers.specs.declared.Verdict.the-variants.{Sound, Broken}
 use Rattle.answers.proofs.Tests.{not-sound}
 use Rattle.form.specs.Check.{readVerdict, exitsVerdict, nodesVerdict}
-use Rattle.form.proofs.Verdicts.{read-there, exits-sound, exits-inside}
+use Rattle.form.proofs.Verdicts.{read-told, exits-sound, exits-inside}
 use Rattle.nodecheck.specs.Table.{ReadTold, Blank, Names, ExitsTold, NodesTold}
 use Rattle.nodecheck.proofs.Table.{names-none, names-more, names-length}
 use Rattle.nodecheck.proofs.Turns.{nodes-end, read-stops, exits-stop, nodes-go}
@@ -77,7 +77,7 @@ module _ (ws : List ℕ) (h g n : ℕ) (few : n ≤ 4096) where
     module _ (told : ReadTold a g Sound) where
       pub on : afterAt ws (i .p) ≡ h + 2 + 2 * i .k
       on =
-          let there : i .p < length ws = read-there ws g (i .p) (sym (told ws (i .p) ea)) in
+          let there : i .p < length ws = read-told ws g (i .p) (sym (told ws (i .p) ea)) .there in
           after-word ws (i .p) there ∙ omega (arith, i .at)
 
       module _ (d : Due) (ed : d ≡ dueAt ws (afterAt ws (i .p))) (v : Verdict) (zs : List ℕ) (et : ExitsTold d n (i .k) (i .tb) zs v) where

@@ -14,9 +14,9 @@ use Rattle.answers.specs.declared.Counts.{Counts}
 use Rattle.layout.specs.Layout.{isInput, size, reads, exits, decides}
 use Rattle.layout.specs.Shape.{Shape}
 use Rattle.testvectors.specs.Vectors.{bit}
-use Rattle.value.specs.Settings.{Setting, good}
+use Rattle.value.specs.Settings.{Setting, Keeps, good}
 use Rattle.value.specs.Values.{taken, graph, value}
-use Rattle.value.proofs.Settings.{Keeps, good-keeps}
+use Rattle.value.proofs.Settings.{good-keeps}
 use Rattle.value.proofs.Values.{Spares, taken-later, graph-lower, value-solves, graph-bit, value-bit, graph-spared}
 use Rattle.detect.specs.Detects.{goodValue}
 use Rattle.rules.specs.Rules.{beyond, meets, active, touched, rewalk, flipped, listed}

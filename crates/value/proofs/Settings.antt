@@ -1,20 +1,19 @@
--- Settings: which give bits, and what faults make of a place. No card in it. Assumes nothing.
+-- Settings: that no fault and faults give bits, and what faults make of a place. No card in it. Assumes nothing.
 use Prim.Native.Nat.{ℕ, suc, _+_, _/_, _%_, _<_, _≤_}
-use mathlib.Core.Path.{_≡_, refl}
-use mathlib.Core.List.{List, [], _∷_}
+use mathlib.Core.Path.{_≡_, refl, ap, _∙_}
+use mathlib.Core.List.{List, [], _∷_, _++_}
 use native.Mathlib.Omega.{arith}
 use native.Mathlib.Numerals.{add-one}
 use lib.ListN.{length, getD, drop, drop-of-length-le}
 use lib.Seq.{drop-cons}
 use lib.Dec.{eqb}
 use borrow.Author.Tests.{eq-eqb, ne-eqb}
+use Rattle.lists.specs.Counting.{choose}
 use Rattle.lists.proofs.Tests.{choose-bit}
-use Rattle.value.specs.Settings.{Setting, good, faulty}
+use Rattle.lists.specs.Each.{Each}
+use Rattle.value.specs.Settings.{Keeps, good, faulty}
 
--- a setting that gives bits
-abbrev pub Keeps : Setting → Type 0
-Keeps s = (p v : ℕ) → v < 2 → s p v < 2
-
+-- they give bits
 pub good-keeps : Keeps good
 good-keeps p v h = h
 
@@ -35,6 +34,17 @@ faulty-here f fs p v e = rw (eq-eqb (f / 2) p e)
 pub faulty-off : (f : ℕ) (fs : List ℕ) (p v : ℕ) → (f / 2 ≡ p → ⊥) → faulty (f ∷ fs) p v ≡ faulty fs p v
 unfolding faulty
 faulty-off f fs p v n = rw (ne-eqb (f / 2) p n)
+
+-- two lists of faults in one, and a list with none at a place, which it leaves alone
+pub faulty-both : (fs gs : List ℕ) (p v : ℕ) → faulty (fs ++ gs) p v ≡ faulty fs p (faulty gs p v)
+unfolding faulty
+faulty-both [] gs p v = refl
+faulty-both (f ∷ fs) gs p v = ap (choose (eqb (f / 2) p) (f % 2)) (faulty-both fs gs p v)
+
+pub faulty-spares : (fs : List ℕ) (p v : ℕ) → Each (λ f. f / 2 ≡ p → ⊥) fs → faulty fs p v ≡ v
+unfolding faulty
+faulty-spares [] p v e = refl
+faulty-spares (f ∷ fs) p v (n, e) = faulty-off f fs p v n ∙ faulty-spares fs p v e
 
 -- one fault alone
 pub stuck-here : (f p v : ℕ) → f / 2 ≡ p → faulty (f ∷ []) p v ≡ f % 2

@@ -16,10 +16,10 @@ use Rattle.layout.specs.Shape.{Shape}
 use Rattle.layout.proofs.Firsts.{apart, node-below}
 use Rattle.testvectors.specs.Vectors.{bit}
 use Rattle.testvectors.proofs.Laws.{bit-value}
-use Rattle.value.specs.Settings.{Setting, good, faulty}
+use Rattle.value.specs.Settings.{Setting, Keeps, good, faulty}
 use Rattle.value.specs.Values.{follow, taken, graph, values, value, nodeValue}
 use Rattle.value.proofs.Walk.{Later, walk-bit, node-law, same-graph}
-use Rattle.value.proofs.Settings.{Keeps, stuck-off}
+use Rattle.value.proofs.Settings.{stuck-off}
 
 -- a setting that leaves the places of graph g alone, those of its nodes and its own
 pub record Spares (ws : List ℕ) (c : Counts) (s : Setting) (g : ℕ) : Type 0 where

@@ -1,5 +1,5 @@
 -- Places of a card, and what faults make of them: document 01, 'Values and faults'. Assumes nothing.
-use Prim.Native.Nat.{ℕ, _/_, _%_}
+use Prim.Native.Nat.{ℕ, _/_, _%_, _<_}
 use mathlib.Core.List.{List, [], _∷_}
 use lib.Dec.{eqb}
 use Rattle.lists.specs.Counting.{choose}
@@ -8,6 +8,10 @@ use Rattle.lists.specs.Counting.{choose}
 -- graph its value.
 abbrev pub Setting : Type 0
 Setting = ℕ → ℕ → ℕ
+
+-- a setting that gives bits
+abbrev pub Keeps : Setting → Type 0
+Keeps s = (p v : ℕ) → v < 2 → s p v < 2
 
 -- Fault f holds place f / 2 at f % 2: so fault 2j makes node j always take its 0-exit and 2j + 1 its 1-exit, and fault 2N + 2g holds graph g at 0
 -- and 2N + 2g + 1 at 1.

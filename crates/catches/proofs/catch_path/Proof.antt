@@ -1,7 +1,7 @@
 -- `catches::catch_path` meets its contract. The invariant: the nodes below k have what is caught there, the others 2, and the active path goes on at node k.
 -- Assumes nothing.
 use Prim.Native.Nat.{ℕ, _<_, _+_, _-_}
-use mathlib.Core.Path.{_≡_, refl, _∙_}
+use mathlib.Core.Path.{_≡_, refl}
 use mathlib.Core.List.{List}
 use mathlib.Core.Bool.{true}
 use native.Mathlib.Omega.{arith}

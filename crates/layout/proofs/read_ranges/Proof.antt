@@ -1,5 +1,5 @@
 -- `layout::read_ranges` meets its contract. The invariant: the nodes of the graphs below h are noted. Assumes nothing.
-use Prim.Native.Nat.{_≤_, _-_}
+use Prim.Native.Nat.{_-_}
 use mathlib.Core.Path.{_≡_}
 use native.Mathlib.Omega.{arith}
 use lib.ListN.{length}

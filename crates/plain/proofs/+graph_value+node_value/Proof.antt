@@ -1,7 +1,7 @@
 -- `plain::graph_value` and `plain::node_value`, which call each other, meet their contracts. The falling number: a graph stands above its own nodes, and
 -- a node above the later nodes of its graph and above every lower graph. Each answer cites one law of `Laws`. Assumes nothing.
 use Prim.Native.Nat.{ℕ, _<_, _+_, _*_, _-_}
-use mathlib.Core.Path.{sym, _∙_}
+use mathlib.Core.Path.{sym}
 use native.Mathlib.Omega.{arith}
 use borrow.Author.Needs.{needs}
 use Rattle.layout.specs.Layout.{size}

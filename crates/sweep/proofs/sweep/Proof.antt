@@ -1,6 +1,6 @@
 -- `sweep::sweep` meets its contract. The invariant: the graphs below g and their nodes have their values. Assumes nothing.
 use Prim.Native.Nat.{_≤_, _-_}
-use mathlib.Core.Path.{_≡_, refl, _∙_}
+use mathlib.Core.Path.{_≡_, refl}
 use native.Mathlib.Omega.{arith}
 use lib.ListN.{length}
 use Rattle.sweep.specs.Swept.{Swept}

@@ -1,7 +1,7 @@
 -- `sweep::sweep_nodes` meets its contract. The invariant: under each vector whose lower graphs were done, the nodes from k on have their values.
 -- Assumes nothing.
 use Prim.Native.Nat.{ℕ, _≤_, _+_, _-_}
-use mathlib.Core.Path.{_≡_, refl, _∙_}
+use mathlib.Core.Path.{_≡_, refl}
 use mathlib.Core.List.{List}
 use native.Mathlib.Omega.{arith}
 use lib.ListN.{length}
