@@ -1,6 +1,6 @@
 /* cardhost.h: the grading engine for logic cards, called from C.
  *
- * Link with libcardhost.a; nothing else is needed. The seven functions keep no state between calls
+ * Link with libcardhost.a; nothing else is needed. The eight functions keep no state between calls
  * and allocate nothing.
  *
  * WORDS. A card, its vectors and every answer are 32-bit words, each as four bytes, highest byte
@@ -14,13 +14,21 @@
  * A VECTOR for m inputs is w = m / 16 words, rounded up: A0000000 plus, in bit i of word j, the value
  * of input 16 * j + i. A list has 0 to 65,535 vectors, one after the other, numbered from 0.
  *
+ * TWO CARDS, A and B, are joined by a wire word for each of B's inputs, in their order: the number of a
+ * graph of A, be it an input, hidden or observable, or FFFFFFFF where the input stays free. The joined
+ * card has A's inputs, B's free inputs, A's outputs and B's outputs, each in their order, numbered anew
+ * from 0. A wired input of B is gone, and its readers read the graph of A. A's nodes keep their numbers,
+ * and B's follow them. All else stays as it was.
+ *
  * THE ANSWER of every call is one 64-bit number. Below 4294967296 the call is done, and the number is
  *   - of card_first_marking and card_tally, the marked count: how many of the F faults are caught;
  *   - of card_change_list, the length of the list;
+ *   - of card_join, the number of words of the joined card;
  *   - of the other calls, 0.
  * Else the call is refused, and the number is refusal * 4294967296 + position (CARD_REFUSAL and
  * CARD_POSITION take it apart). The first broken rule is told, in this order: 1; then word by word 2,
- * 4, 5 and then 3, 6 or 7, with 8 after a graph's last word; 9; 10; 11; 12.
+ * 4, 5 and then 3, 6 or 7, with 8 after a graph's last word; 9; 10; 11; 12. card_join tells those of A,
+ * 1 to 9, then those of B, then 13, 14, 12.
  *
  *   no.  when                                                          position
  *    1   card over 9,216 whole words                                   0
@@ -36,20 +44,25 @@
  *   10   vector words: number, kind or bits wrong                      0, or the vector word
  *   11   graph or fault number too high                                0
  *   12   buffer too short                                              0
+ *   13   wire words: another number of them than B has inputs, or one  0, or the wire word
+ *        is neither FFFFFFFF nor the number of a graph of A
+ *   14   joined card over 1,024 graphs or over 4,096 nodes             0
  *
- * Positions count words from 0: in the card, or for refusal 10 in the vector words.
+ * Positions count words from 0: in the card, or for refusal 10 in the vector words and for 13 in the
+ * wire words. Those of B, 0 included, count on after A's words: where A has 9 words, B's word 5 is at
+ * 14, and 1 of B is at 9. The number of wire words is looked at before any of them.
  *
  * LEFTOVERS, where a length is no multiple of 4. One to three bytes at a card's end are refusal 4 at
  * the number of its whole words, after the last graph's 8 and just before 9. In vectors they are a
- * wrong number of words, refusal 10 at 0. In a buffer they are unused.
+ * wrong number of words, refusal 10 at 0, and in wire words likewise 13 at 0. In a buffer they are
+ * unused.
  *
  * BUFFERS. A refused call alters no byte. A call that is done writes just the words it names, from
- * the buffer's front; every byte beyond them keeps its content. The card and the vectors are only
- * read.
+ * the buffer's front; every byte beyond them keeps its content. Cards, vectors and wires are only read.
  *
  * TRUSTED, and not looked at: each pointer is good for its length (and not NULL, though nothing is
- * read or written at length 0), and the lent buffer overlaps neither the card nor the vectors. A host
- * that breaks this gets no promise.
+ * read or written at length 0), and the lent buffer overlaps no other lent part. A host that breaks this
+ * gets no promise.
  *
  * STACK. A call needs at most CARD_STACK bytes of stack (tests/stack.c measures it on the largest cards).
  */
@@ -103,6 +116,12 @@ uint64_t card_first_marking(const uint8_t *card, size_t card_len, const uint8_t 
  * vector counted each time. Answers the marked count. Refusal 12 with under F whole words of buffer. */
 uint64_t card_tally(const uint8_t *card, size_t card_len, const uint8_t *vectors, size_t vectors_len,
                     uint8_t *tallies, size_t tallies_len);
+
+/* Joins two cards by their wires. Writes the joined card's words, at most 9,216, and answers how many they
+ * are. They are a card that every other call takes. Refusals 1 to 9 of A and of B; 13; 14; 12 with fewer
+ * whole words of buffer than that. */
+uint64_t card_join(const uint8_t *a, size_t a_len, const uint8_t *b, size_t b_len, const uint8_t *wires, size_t wires_len,
+                   uint8_t *card, size_t card_len);
 
 #ifdef __cplusplus
 }

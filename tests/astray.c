@@ -156,7 +156,7 @@ static uint32_t word_at(const uint8_t *b)
 static void engine_says(const uint32_t *words, unsigned count, uint32_t vector, enum call call, char *text)
 {
     uint8_t card[4 * WORDS], bits[4], buffer[4 * 100];
-    struct asked a = { call, card, 4 * (size_t)count, bits, 4, 0 };
+    struct asked a = { .call = call, .card = card, .card_len = 4 * (size_t)count, .vectors = bits, .vectors_len = 4 };
     unsigned n;
     for (unsigned i = 0; i < 4 * count; i++)
         card[i] = (uint8_t)(words[i / 4] >> (24 - 8 * (i % 4)));

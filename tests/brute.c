@@ -12,7 +12,7 @@ enum {
     MAX_FAULTS = 2 * MAX_NODES + 2 * MAX_GRAPHS,
     MAX_VECTORS = 65535,
     MAX_VECTOR_WORDS = 16384,
-    NO_FAULT = -1
+    NO_FAULT = BRUTE_NO_FAULT
 };
 
 struct card {
@@ -353,6 +353,18 @@ static const uint8_t *caught_by(const struct card *c, const uint8_t *vector)
 
 static uint32_t first_vector[MAX_FAULTS], tally[MAX_FAULTS];
 
+/* Takes in what vector v catches; how many faults are caught for the first time. */
+static unsigned take_in(const uint8_t *caught, unsigned faults, size_t v)
+{
+    unsigned marked = 0;
+    for (unsigned f = 0; f < faults; f++)
+        if (caught[f] && tally[f]++ == 0) {
+            first_vector[f] = (uint32_t)v;
+            marked++;
+        }
+    return marked;
+}
+
 /* First vectors and tallies of a whole list; the marked count. */
 static unsigned grade(const struct card *c, const uint8_t *vectors, size_t len)
 {
@@ -360,15 +372,21 @@ static unsigned grade(const struct card *c, const uint8_t *vectors, size_t len)
     memset(tally, 0, sizeof tally);
     for (unsigned i = 0; i < KEPT; i++)
         kept[i].vector = NULL;
-    for (size_t v = 0; v < len / 4 / width(c); v++) {
-        const uint8_t *caught = caught_by(c, vectors + 4 * width(c) * v);
-        for (unsigned f = 0; f < c->faults; f++)
-            if (caught[f] && tally[f]++ == 0) {
-                first_vector[f] = (uint32_t)v;
-                marked++;
-            }
-    }
+    for (size_t v = 0; v < len / 4 / width(c); v++)
+        marked += take_in(caught_by(c, vectors + 4 * width(c) * v), c->faults, v);
     return marked;
+}
+
+static void put_marks(uint8_t *marks, unsigned faults)
+{
+    for (unsigned f = 0; f < faults; f++)
+        put_word(marks, f, tally[f] ? 0xE0000000u + first_vector[f] : 0xC0000000u);
+}
+
+static void put_tallies(uint8_t *tallies, unsigned faults)
+{
+    for (unsigned f = 0; f < faults; f++)
+        put_word(tallies, f, tally[f]);
 }
 
 /* ---- the calls ---- */
@@ -478,8 +496,7 @@ uint64_t brute_first_marking(const uint8_t *card, size_t card_len, const uint8_t
     if (marks_len / 4 < the_card.faults)
         return refuse(12, 0);
     marked = grade(&the_card, vectors, vectors_len);
-    for (unsigned f = 0; f < the_card.faults; f++)
-        put_word(marks, f, tally[f] ? 0xE0000000u + first_vector[f] : 0xC0000000u);
+    put_marks(marks, the_card.faults);
     return marked;
 }
 
@@ -493,8 +510,168 @@ uint64_t brute_tally(const uint8_t *card, size_t card_len, const uint8_t *vector
     if (tallies_len / 4 < the_card.faults)
         return refuse(12, 0);
     marked = grade(&the_card, vectors, vectors_len);
-    for (unsigned f = 0; f < the_card.faults; f++)
-        put_word(tallies, f, tally[f]);
+    put_tallies(tallies, the_card.faults);
+    return marked;
+}
+
+/* ---- two cards wired together ---- */
+
+#define FREE 0xFFFFFFFFu
+
+static struct {
+    struct card a, b;
+    uint32_t wire[MAX_GRAPHS]; /* of each input of B */
+    struct {
+        const struct card *card;
+        unsigned graph;
+    } origin[2 * MAX_GRAPHS]; /* of each graph of the joined card: the card that it comes from, and its number there */
+    unsigned graphs, inputs, nodes;
+    unsigned number[2][MAX_GRAPHS]; /* the new numbers of A's graphs and of B's */
+} both;
+
+static unsigned *numbers_of(const struct card *c)
+{
+    return both.number[c == &both.b];
+}
+
+static int is_wired(const struct card *c, unsigned g)
+{
+    return c == &both.b && g < c->inputs && both.wire[g] != FREE;
+}
+
+static uint64_t take_wires(const uint8_t *wires, size_t len)
+{
+    if (len % 4 || len / 4 != both.b.inputs)
+        return refuse(13, 0);
+    for (unsigned i = 0; i < both.b.inputs; i++) {
+        both.wire[i] = get_word(wires, i);
+        if (both.wire[i] != FREE && both.wire[i] >= both.a.graphs)
+            return refuse(13, i);
+    }
+    return 0;
+}
+
+/* The graphs of one card from number `from` on and below `to`, but for wired inputs, are next in the joined card. */
+static void line_up(const struct card *c, unsigned from, unsigned to)
+{
+    for (unsigned g = from; g < to; g++)
+        if (!is_wired(c, g)) {
+            numbers_of(c)[g] = both.graphs;
+            both.origin[both.graphs].card = c;
+            both.origin[both.graphs++].graph = g;
+        }
+}
+
+static void line_up_all(void)
+{
+    const struct card *a = &both.a, *b = &both.b;
+    both.graphs = 0;
+    both.nodes = a->nodes + b->nodes;
+    line_up(a, 0, a->inputs);
+    line_up(b, 0, b->inputs);
+    both.inputs = both.graphs;
+    line_up(a, a->inputs, a->graphs);
+    line_up(b, b->inputs, b->graphs);
+    for (unsigned i = 0; i < b->inputs; i++)
+        if (is_wired(b, i))
+            both.number[1][i] = both.number[0][both.wire[i]];
+}
+
+/* Puts the words of one graph, with its reads renumbered; the number of the word after them. */
+static size_t put_graph(uint8_t *card, size_t at, const struct card *c, unsigned g)
+{
+    put_word(card, at++, (uint32_t)c->kind[g] << 29 | (c->first[g + 1] - c->first[g]));
+    for (unsigned j = c->first[g]; j < c->first[g + 1]; j++) {
+        put_word(card, at++, (uint32_t)3 << 29 | numbers_of(c)[c->read[j]]);
+        put_word(card, at++, (uint32_t)4 << 29 | c->exit[j][0] << 14 | c->exit[j][1]);
+    }
+    return at;
+}
+
+uint64_t brute_join(const uint8_t *a, size_t a_len, const uint8_t *b, size_t b_len, const uint8_t *wires, size_t wires_len,
+                    uint8_t *card, size_t card_len)
+{
+    size_t words = 0;
+    uint64_t r;
+    if ((r = take_card(&both.a, a, a_len)) != 0)
+        return r;
+    if ((r = take_card(&both.b, b, b_len)) != 0)
+        return r + a_len / 4;
+    if ((r = take_wires(wires, wires_len)) != 0)
+        return r;
+    line_up_all();
+    if (both.graphs > MAX_GRAPHS || both.nodes > MAX_NODES)
+        return refuse(14, 0);
+    if (card_len / 4 < both.graphs + 2 * both.nodes)
+        return refuse(12, 0);
+    for (unsigned g = 0; g < both.graphs; g++)
+        words = put_graph(card, words, both.origin[g].card, both.origin[g].graph);
+    return words;
+}
+
+/* The fault of one of the two cards that a fault of the joined one is, or none. */
+static long fault_of(const struct card *c, long fault)
+{
+    long place = fault / 2, before = c == &both.b ? both.a.nodes : 0;
+    if (fault == NO_FAULT)
+        return NO_FAULT;
+    if (place < (long)both.nodes)
+        return place >= before && place < before + (long)c->nodes ? fault - 2 * before : NO_FAULT;
+    place -= both.nodes;
+    return both.origin[place].card == c ? 2L * c->nodes + 2L * both.origin[place].graph + fault % 2 : NO_FAULT;
+}
+
+/* The values of one card's graphs under a vector of the joined one: a wired input has the value in A of the graph that its wire names. */
+static void values_in(const struct card *c, const uint8_t *vector, long fault, const uint8_t *in_a, uint8_t *values)
+{
+    static uint8_t own[4 * MAX_GRAPHS / 16];
+    uint32_t words[MAX_GRAPHS / 16] = { 0 };
+    for (unsigned i = 0; i < c->inputs; i++) {
+        unsigned n = numbers_of(c)[i];
+        uint32_t value = is_wired(c, i) ? in_a[both.wire[i]] : get_word(vector, n / 16) >> n % 16 & 1;
+        words[i / 16] |= value << i % 16;
+    }
+    for (unsigned j = 0; j < width(c); j++)
+        put_word(own, j, 0xA0000000u | words[j]);
+    all_values(c, own, fault_of(c, fault), values);
+}
+
+struct pair_values {
+    uint8_t a[MAX_GRAPHS], b[MAX_GRAPHS];
+};
+
+static void together(const uint8_t *vector, long fault, struct pair_values *v)
+{
+    values_in(&both.a, vector, fault, NULL, v->a);
+    values_in(&both.b, vector, fault, v->a, v->b);
+}
+
+void brute_together_values(const uint8_t *vector, long fault, uint8_t *values)
+{
+    static struct pair_values v;
+    together(vector, fault, &v);
+    for (unsigned g = 0; g < both.graphs; g++)
+        put_word(values, g, (both.origin[g].card == &both.a ? v.a : v.b)[both.origin[g].graph]);
+}
+
+uint64_t brute_together_grade(const uint8_t *vectors, size_t vectors_len, uint8_t *marks, uint8_t *tallies)
+{
+    static struct pair_values good, other;
+    static uint8_t caught[MAX_FAULTS];
+    size_t w = (both.inputs + 15) / 16;
+    unsigned marked = 0, faults = 2 * both.nodes + 2 * both.graphs;
+    memset(tally, 0, sizeof tally);
+    for (size_t v = 0; v < vectors_len / 4 / w; v++) {
+        const uint8_t *vector = vectors + 4 * w * v;
+        together(vector, NO_FAULT, &good);
+        for (unsigned f = 0; f < faults; f++) {
+            together(vector, f, &other);
+            caught[f] = observed(&both.a, good.a, other.a) || observed(&both.b, good.b, other.b);
+        }
+        marked += take_in(caught, faults, v);
+    }
+    put_marks(marks, faults);
+    put_tallies(tallies, faults);
     return marked;
 }
 

@@ -1,7 +1,7 @@
-/* brute.h: the seven calls and the program's text again, by brute force.
+/* brute.h: the eight calls and the program's text again, by brute force.
  *
- * Written from document 01 alone. It shares nothing with the engine and knows no marking rules: what a
- * fault does is found by putting it in and working out the whole card again.
+ * Written from documents 01 and 02 alone. It shares nothing with the engine and knows no marking rules:
+ * what a fault does is found by putting it in and working out the whole card again.
  */
 #ifndef BRUTE_H
 #define BRUTE_H
@@ -23,6 +23,16 @@ uint64_t brute_first_marking(const uint8_t *card, size_t card_len, const uint8_t
                              uint8_t *marks, size_t marks_len);
 uint64_t brute_tally(const uint8_t *card, size_t card_len, const uint8_t *vectors, size_t vectors_len,
                      uint8_t *tallies, size_t tallies_len);
+uint64_t brute_join(const uint8_t *a, size_t a_len, const uint8_t *b, size_t b_len, const uint8_t *wires, size_t wires_len,
+                    uint8_t *card, size_t card_len);
+
+/* The two cards that brute_join has joined last, worked out together, A and then B with what A has on its
+ * wires: no joined card is looked at. Vectors, faults and graphs are told as of the joined card, with
+ * right vectors and enough room. The values with a fault in, or with none at BRUTE_NO_FAULT; the marks
+ * and tallies of a list, and the marked count. */
+enum { BRUTE_NO_FAULT = -1 };
+void brute_together_values(const uint8_t *vector, long fault, uint8_t *values);
+uint64_t brute_together_grade(const uint8_t *vectors, size_t vectors_len, uint8_t *marks, uint8_t *tallies);
 
 /* What cardgrade prints for these bytes; the text's length. The room is at least BRUTE_TEXT. */
 enum { BRUTE_TEXT = 400000 };

@@ -5,7 +5,7 @@
 #include "brute.h"
 
 const char *const call_names[CALLS] = { "card_check",          "card_good_values",   "card_fault_values", "card_change_list",
-                                        "card_critical_nodes", "card_first_marking", "card_tally" };
+                                        "card_critical_nodes", "card_first_marking", "card_tally",        "card_join" };
 
 uint64_t ask_engine(const struct asked *a, uint8_t *buffer, size_t len)
 {
@@ -16,7 +16,8 @@ uint64_t ask_engine(const struct asked *a, uint8_t *buffer, size_t len)
     case CHANGE: return card_change_list(a->card, a->card_len, a->vectors, a->vectors_len, a->number, buffer, len);
     case CRITICAL: return card_critical_nodes(a->card, a->card_len, a->vectors, a->vectors_len, buffer, len);
     case FIRST: return card_first_marking(a->card, a->card_len, a->vectors, a->vectors_len, buffer, len);
-    default: return card_tally(a->card, a->card_len, a->vectors, a->vectors_len, buffer, len);
+    case TALLY: return card_tally(a->card, a->card_len, a->vectors, a->vectors_len, buffer, len);
+    default: return card_join(a->card, a->card_len, a->second, a->second_len, a->vectors, a->vectors_len, buffer, len);
     }
 }
 
@@ -29,6 +30,7 @@ uint64_t ask_brute(const struct asked *a, uint8_t *buffer, size_t len)
     case CHANGE: return brute_change_list(a->card, a->card_len, a->vectors, a->vectors_len, a->number, buffer, len);
     case CRITICAL: return brute_critical_nodes(a->card, a->card_len, a->vectors, a->vectors_len, buffer, len);
     case FIRST: return brute_first_marking(a->card, a->card_len, a->vectors, a->vectors_len, buffer, len);
-    default: return brute_tally(a->card, a->card_len, a->vectors, a->vectors_len, buffer, len);
+    case TALLY: return brute_tally(a->card, a->card_len, a->vectors, a->vectors_len, buffer, len);
+    default: return brute_join(a->card, a->card_len, a->second, a->second_len, a->vectors, a->vectors_len, buffer, len);
     }
 }

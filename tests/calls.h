@@ -1,15 +1,16 @@
-/* calls.h: the seven calls under one name, of the engine and of brute force. */
+/* calls.h: the eight calls under one name, of the engine and of brute force. */
 #ifndef CALLS_H
 #define CALLS_H
 
 #include <stddef.h>
 #include <stdint.h>
 
-enum call { CHECK, GOOD, FAULT, CHANGE, CRITICAL, FIRST, TALLY, CALLS };
+enum call { CHECK, GOOD, FAULT, CHANGE, CRITICAL, FIRST, TALLY, JOIN, CALLS };
 
 extern const char *const call_names[CALLS];
 
-/* What a call is given. The number is a fault's or a graph's, where the call takes one. */
+/* What a call is given. The number is a fault's or a graph's, where the call takes one. JOIN takes a
+ * second card, and wire words in the place of vectors. */
 struct asked {
     enum call call;
     const uint8_t *card;
@@ -17,6 +18,8 @@ struct asked {
     const uint8_t *vectors;
     size_t vectors_len;
     uint32_t number;
+    const uint8_t *second;
+    size_t second_len;
 };
 
 uint64_t ask_engine(const struct asked *a, uint8_t *buffer, size_t len);

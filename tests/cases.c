@@ -1,7 +1,8 @@
 /* cases.c: fixed cases through the host's calls, with the expected answers written out.
  *
- * They are document 01's own figures where it has some; the others follow from its rules. A card, a
- * list of vectors and the words of a buffer are written as text:
+ * They are document 01's own figures where it has some; the others follow from its rules and from those of
+ * document 02, worked out by hand. A card, a list of vectors, wires and the words of a buffer are written
+ * as text:
  *
  *   60000001    eight hexadecimal digits, a word       A0000001*65535   a word so many times
  *   12          fewer digits, a decimal number         +2               two leftover bytes
@@ -26,7 +27,16 @@
 #define CARD_16 "0*16 40000001 6000000F 80000001"
 #define CARD_17 "0*17 40000001 6000000F 80000001"
 #define ALL_INPUTS "0*1023 40000001 600003FE 80000001"
+#define FREE "FFFFFFFF"
 #define W(words) (4 * (words))
+
+/* S on S: the inputs; A's hidden graph of one node, and its observable one of two nodes; the same two of B, whose reads go by the wire. */
+#define S_OUTPUTS "20000001 60000000 80000001 40000002 60000001 80000003 60000000 80000001 "
+#define S_ON_0 "0 " S_OUTPUTS "20000001 60000000 80000001 40000002 60000003 80000003 60000000 80000001"
+#define S_ON_1 "0 " S_OUTPUTS "20000001 60000001 80000001 40000002 60000003 80000003 60000001 80000001"
+#define S_ON_2 "0 " S_OUTPUTS "20000001 60000002 80000001 40000002 60000003 80000003 60000002 80000001"
+#define S_FREE "0 0 20000001 60000000 80000001 40000002 60000002 80000003 60000000 80000001 " \
+               "20000001 60000001 80000001 40000002 60000004 80000003 60000001 80000001"
 
 /* ---- the check: name, card, answer (the five numbers, or the refusal) ---- */
 
@@ -475,6 +485,145 @@ static const struct call_case {
     { GOOD, ALL_INPUTS, "A000FFFF*64", 0, W(1030), "refused 10 63" },
     { GOOD, ALL_INPUTS, "A000FFFF*63 A0007FFF", 0, W(1030), "0: 1*1024" },
     { GOOD, ALL_INPUTS, "A000FFFF*63", 0, W(1030), "refused 10 0" },
+    /* S on S's observable graph: with input 1 all is 1 and every stuck 0 is seen; with 0 graphs 0, 2 and 4 held at 1 are */
+    { GOOD, S_ON_2, "A0000001", 0, W(5), "0: 1*5" },
+    { TALLY, S_ON_2, "A0000001", 0, W(22), "11: 1 0 1 0 1 0 1 0 1 0 1 0 1 0 1 0 1 0 1 0 1 0" },
+    { TALLY, S_ON_2, "A0000000", 0, W(22), "3: 0*12 0 1 0 0 0 1 0 0 0 1" },
+    /* S beside S: what each vector catches on its own S */
+    { TALLY, S_FREE, "A0000001", 0, W(24), "8: 1 0 1 0 1 0 0*6 1 0 0 1 1 0 1 0 0 0 0 1" },
+};
+
+/* ---- two cards wired together: name, card A, card B, its wires (once, or several with | between), the
+ * buffer's bytes, answer ---- */
+
+#define ONE_READ "00000000 00000000 40000001 60000000 80000001" /* two inputs, of which the first is read */
+#define BAD_B "00000000 40000001 60000000 80000002"             /* refusal 7 at its word 3 */
+#define FULL "0*1023 40000001 60000000 80000001"                /* 1,024 graphs, so that every joined card is over the limit */
+
+static const struct join_case {
+    const char *name, *a, *b, *wires;
+    size_t room;
+    const char *want;
+} join_cases[] = {
+    { "S on S, on its input", CARD_S, CARD_S, "0", W(17), "17: " S_ON_0 },
+    { "S on S, on its hidden graph", CARD_S, CARD_S, "1", W(17), "17: " S_ON_1 },
+    { "S on S, on its observable graph", CARD_S, CARD_S, "2", W(17), "17: " S_ON_2 },
+    { "S beside S, free", CARD_S, CARD_S, FREE, W(18), "18: " S_FREE },
+    { "f on S, all free", CARD_S, CARD_F, FREE "*3", W(19),
+      "19: 0*4 20000001 60000000 80000001 40000002 60000004 80000003 60000000 80000001 "
+      "40000003 60000001 8000C001 60000002 80010000 60000003 80000001" },
+    { "f on S, all wired", CARD_S, CARD_F, "0 1 2", W(16),
+      "16: 0 " S_OUTPUTS "40000003 60000000 8000C001 60000001 80010000 60000002 80000001" },
+    { "f on S, all wired, crosswise", CARD_S, CARD_F, "2 0 1", W(16),
+      "16: 0 " S_OUTPUTS "40000003 60000002 8000C001 60000000 80010000 60000001 80000001" },
+    { "f on S, three inputs on one graph", CARD_S, CARD_F, "1 1 1", W(16),
+      "16: 0 " S_OUTPUTS "40000003 60000001 8000C001 60000001 80010000 60000001 80000001" },
+    { "f on S, two inputs on one graph, one free", CARD_S, CARD_F, "2 2 " FREE, W(17),
+      "17: 0 0 20000001 60000000 80000001 40000002 60000002 80000003 60000000 80000001 "
+      "40000003 60000003 8000C001 60000003 80010000 60000001 80000001" },
+    { "f on S, free, wired, free", CARD_S, CARD_F, FREE " 1 " FREE, W(18),
+      "18: 0 0 0 20000001 60000000 80000001 40000002 60000003 80000003 60000000 80000001 "
+      "40000003 60000001 8000C001 60000003 80010000 60000002 80000001" },
+    { "f on S, wired, free, wired", CARD_S, CARD_F, "0 " FREE " 2", W(17),
+      "17: 0 0 20000001 60000000 80000001 40000002 60000002 80000003 60000000 80000001 "
+      "40000003 60000000 8000C001 60000001 80010000 60000003 80000001" },
+    { "S on f, on its observable graph", CARD_F, CARD_S, "3", W(18),
+      "18: " CARD_F " 20000001 60000003 80000001 40000002 60000004 80000003 60000003 80000001" },
+    { "S on f, on its last input", CARD_F, CARD_S, "2", W(18),
+      "18: " CARD_F " 20000001 60000002 80000001 40000002 60000004 80000003 60000002 80000001" },
+    { "a free input that nobody reads stays", CARD_S, ONE_READ, "1 " FREE, W(13),
+      "13: 0 0 20000001 60000000 80000001 40000002 60000002 80000003 60000000 80000001 40000001 60000002 80000001" },
+    { "a wired input that nobody reads goes", CARD_S, ONE_READ, FREE " 1", W(13),
+      "13: 0 0 20000001 60000000 80000001 40000002 60000002 80000003 60000000 80000001 40000001 60000001 80000001" },
+    { "17 inputs on three graphs", CARD_S, CARD_17, "0*15 1 2", W(12), "12: 0 " S_OUTPUTS "40000001 60000001 80000001" },
+    /* the limits */
+    { "1,024 graphs, most of them inputs of A", "0*1022 obs1", "0 obs1", "0", W(1028), "1028: 0*1022 obs1*2" },
+    { "1,025 graphs, most of them inputs of A", "0*1022 obs1", "0 obs1", FREE, W(1029), "refused 14 0" },
+    { "1,024 graphs, most of them outputs of A", "0 obs1*1022", "0 obs1", "0", W(3070), "3070: 0 obs1*1023" },
+    { "1,025 graphs, most of them outputs of A", "0 obs1*1022", "0 obs1*2", "0", W(3073), "refused 14 0" },
+    { "1,024 graphs, most of them outputs of B", "0 obs1", "0 obs1*1022", "0", W(3070), "3070: 0 obs1*1023" },
+    { "1,025 graphs, most of them outputs of B", "0 obs1", "0 obs1*1023", "0", W(3073), "refused 14 0" },
+    { "1,024 graphs, most of them free inputs of B", CARD_S, ALL_INPUTS, "0 1 2 " FREE "*1020", W(1032),
+      "1032: 0*1021 20000001 60000000 80000001 40000002 600003FD 80000003 60000000 80000001 40000001 600003FC 80000001" },
+    { "1,025 graphs, most of them free inputs of B", CARD_S, ALL_INPUTS, "0 1 " FREE "*1021", W(1033), "refused 14 0" },
+    { "1,023 wired inputs of B", CARD_S, ALL_INPUTS, "0*1022 2", W(12), "12: 0 " S_OUTPUTS "40000001 60000002 80000001" },
+    { "1,024 graphs of A alone", FULL, CARD_S, "0", W(1040), "refused 14 0" },
+    { "4,096 nodes, most of them of A", "0 obs4095", "0 obs1", "0", W(8195), "8195: 0 obs4095 obs1" },
+    { "4,096 nodes, the last on a free input", "0 obs4095", "0 obs1", FREE, W(8196), "8196: 0 0 obs4095 40000001 60000001 80000001" },
+    { "4,097 nodes, all but one of A", "0 obs4096", "0 obs1", "0", W(8197), "refused 14 0" },
+    { "4,097 nodes, all but two of A", "0 obs4095", "0 obs2", "0", W(8197), "refused 14 0" },
+    { "4,096 nodes, most of them of B", "0 obs1", "0 obs4095", "0", W(8195), "8195: 0 obs1 obs4095" },
+    { "4,097 nodes, all but one of B", "0 obs1", "0 obs4096", "0", W(8197), "refused 14 0" },
+    { "all three limits", "0*512 obs8*511", "0 obs8", "0", W(9216), "9216: 0*512 obs8*512" },
+    { "all three limits, on A's last graph", "0*512 obs8*511", "0 obs8", "1022", W(9216), "9216: 0*512 obs8*511 link8" },
+    { "1,025 graphs and 4,097 nodes", "0*512 obs8*512", "0 obs1", "0", W(10000), "refused 14 0" },
+    /* refusals of A, at A's words */
+    { "A, refusal 1", "0*9217", BAD_B, "", 0, "refused 1 0" },
+    { "A, refusal 2", "0*1025", BAD_B, "", 0, "refused 2 1024" },
+    { "A, refusal 3", "00000000 20000000", BAD_B, "", 0, "refused 3 1" },
+    { "A, refusal 4", "00000000 60000000", BAD_B, "", 0, "refused 4 1" },
+    { "A, refusal 4 at its end", "00000000 40000001 60000000", BAD_B, "", 0, "refused 4 3" },
+    { "A, refusal 5", "00000001", BAD_B, "", 0, "refused 5 0" },
+    { "A, refusal 6", "00000000 40000001 60000001 80000001", BAD_B, "", 0, "refused 6 2" },
+    { "A, refusal 7", BAD_B, "00000001", "", 0, "refused 7 3" },
+    { "A, refusal 8", "00000000 40000002 60000000 80000001 60000000 80000001", BAD_B, "", 0, "refused 8 1" },
+    { "A, refusal 9", CUT_S, BAD_B, "", 0, "refused 9 4" },
+    { "A empty, refusal 9", "", "", "", 0, "refused 9 0" },
+    { "A and 1 byte", CARD_S " +1", CARD_S, "0", W(17), "refused 4 9" },
+    { "A and 2 bytes, before B", CARD_S " +2", BAD_B, "", 0, "refused 4 9" },
+    { "A and 3 bytes, before 9", CUT_S " +3", CARD_S, "0", W(17), "refused 4 4" },
+    { "A, 8 before 1 byte", "00000000 40000002 60000000 80000001 60000000 80000001 +1", BAD_B, "", 0, "refused 8 1" },
+    /* refusals of B, counted on after A's 9 words; before wires and buffer */
+    { "B, refusal 1, at A's length", CARD_S, "0*9217", "", 0, "refused 1 9" },
+    { "B, refusal 2", CARD_S, "0*1025", "", 0, "refused 2 1033" },
+    { "B, refusal 3", CARD_S, "00000000 20000000", "", 0, "refused 3 10" },
+    { "B, refusal 4", CARD_S, "00000000 60000000", "", 0, "refused 4 10" },
+    { "B, refusal 4 at its end", CARD_S, "00000000 40000001 60000000", "", 0, "refused 4 12" },
+    { "B, refusal 5 at its word 0", CARD_S, "00000001", "", 0, "refused 5 9" },
+    { "B, refusal 6", CARD_S, "00000000 40000001 60000001 80000001", "", 0, "refused 6 11" },
+    { "B, refusal 7", CARD_S, BAD_B, "3 | 0 0 | 0 +1", 0, "refused 7 12" },
+    { "B, refusal 8", CARD_S, "00000000 40000002 60000000 80000001 60000000 80000001", "", 0, "refused 8 10" },
+    { "B, refusal 9", CARD_S, CUT_S, "3", 0, "refused 9 13" },
+    { "B empty, refusal 9", CARD_S, "", "", 0, "refused 9 9" },
+    { "B, refusal 7, after A's 1,026 words", FULL, BAD_B, "", 0, "refused 7 1029" },
+    { "B, 9,216 words of A before it", "0*512 obs8*512", "00000001", "", 0, "refused 5 9216" },
+    { "B and 1 byte", CARD_S, CARD_S " +1", "0", W(17), "refused 4 18" },
+    { "B and 2 bytes, before 9", CARD_S, CUT_S " +2", "0", W(17), "refused 4 13" },
+    { "B, 3 bytes alone", CARD_S, "+3", "", W(17), "refused 4 9" },
+    { "B and 3 bytes, before 13", CARD_S, CARD_S " +3", "3 | ", 0, "refused 4 18" },
+    { "B, 9,216 words and 3 bytes", CARD_S, "0*512 obs8*512 +3", "", 0, "refused 4 9225" },
+    { "B, 9,217 words and 1 byte", CARD_S, "0*9217 +1", "", 0, "refused 1 9" },
+    /* the number of wire words, before any of them is looked at */
+    { "13, another number", CARD_S, CARD_F, " | 0 | 0 1 | 0 1 2 0 | " FREE "*4", W(40), "refused 13 0" },
+    { "13, the number before a word", CARD_S, CARD_F, "0 3 | 0 1 3 0 | 0 FFFFFFFE | 0 0 0 3", W(40), "refused 13 0" },
+    { "13, leftover bytes", CARD_S, CARD_F, "0 1 2 +1 | 0 1 2 +2 | 0 1 2 +3 | 0 1 +1 | 0 1 +3 | +2", W(40), "refused 13 0" },
+    { "13, leftover bytes before a word", CARD_S, CARD_F, "0 1 3 +1 | 0 3 0 +2 | 0 FFFFFFFE 0 +3", W(40), "refused 13 0" },
+    { "13, a number of 1,023", CARD_S, ALL_INPUTS, "0*1022 | 0*1024 | 0*1023 +1", W(40), "refused 13 0" },
+    /* a wire word that names no graph of A, counted among the wire words */
+    { "13 at 0", CARD_S, CARD_S, "3 | 4 | 1024 | 65535 | 65536 | 7FFFFFFF | 80000000 | FFFF0000 | FFFFFFFE", W(40), "refused 13 0" },
+    { "13 at 1", CARD_S, CARD_F, "0 3 0 | 2 3 3 | " FREE " FFFFFFFE " FREE " | 0 00010000 0", W(40), "refused 13 1" },
+    { "13 at 2", CARD_S, CARD_F, "0 1 3 | " FREE " " FREE " 3 | 2 2 FFFFFFFE", W(40), "refused 13 2" },
+    { "13, graph 3 is there in f", CARD_F, CARD_F, "3 3 4", W(40), "refused 13 2" },
+    { "13 at 1022", CARD_S, ALL_INPUTS, FREE "*1022 3", W(40), "refused 13 1022" },
+    /* orders: 13, 14, 12 */
+    { "13's number before 14", FULL, CARD_F, "0 0 | 0 0 0 0 | 0 0 0 +1", W(2000), "refused 13 0" },
+    { "13's word before 14", FULL, CARD_F, "0 0 1024", W(2000), "refused 13 2" },
+    { "14, all wires right", FULL, CARD_F, "0 0 1023 | 0 " FREE " 1023", W(2000), "refused 14 0" },
+    { "13's number before 12", CARD_S, CARD_F, "0 0 | 0 0 0 +3", 0, "refused 13 0" },
+    { "13's word before 12", CARD_S, CARD_F, "0 0 3", 0, "refused 13 2" },
+    { "13 before 14 and 12", FULL, CARD_F, "0 1024 0", 0, "refused 13 1" },
+    { "14 before 12", FULL, CARD_F, "0 0 0", 0, "refused 14 0" },
+    { "14 of nodes before 12", "0 obs4096", "0 obs1", "0", W(8194), "refused 14 0" },
+    /* the buffer */
+    { "12, a word short", CARD_S, CARD_S, "0 | 1 | 2", W(16), "refused 12 0" },
+    { "12, a byte short", CARD_S, CARD_S, "0 | 1 | 2", W(16) + 3, "refused 12 0" },
+    { "12, a word short for a free input", CARD_S, CARD_S, FREE, W(17) + 3, "refused 12 0" },
+    { "12, no buffer", CARD_S, CARD_S, "0", 0, "refused 12 0" },
+    { "12, 9,215 words", "0*512 obs8*511", "0 obs8", "0", W(9215) + 3, "refused 12 0" },
+    { "1 byte of the buffer unused", CARD_S, CARD_S, "2", W(17) + 1, "17: " S_ON_2 },
+    { "2 bytes of the buffer unused", CARD_S, CARD_S, "1", W(17) + 2, "17: " S_ON_1 },
+    { "3 bytes of the buffer unused", CARD_S, CARD_S, FREE, W(18) + 3, "18: " S_FREE },
+    { "a longer buffer", CARD_S, CARD_S, "0", W(10240), "17: " S_ON_0 },
 };
 
 /* ---- words out of text ---- */
@@ -599,31 +748,44 @@ static void tell(const char *name, const struct asked *a, const char *text, uint
     printf("\n");
 }
 
-/* Lends copies, so that their bytes can be compared afterwards. */
-static void one_call(const char *name, struct asked *a, size_t room, const char *text)
+static uint8_t *copy_of(const uint8_t *bytes, size_t len)
 {
-    uint8_t *card = malloc(a->card_len + 1), *vectors = malloc(a->vectors_len + 1);
-    const uint8_t *card_was = a->card, *vectors_was = a->vectors;
-    uint64_t got;
-    if (!card || !vectors)
+    uint8_t *copy = malloc(len + 1);
+    if (!copy)
         abort();
-    memcpy(card, a->card, a->card_len);
-    memcpy(vectors, a->vectors, a->vectors_len);
-    a->card = card;
-    a->vectors = vectors;
-    expect_buffer(text);
-    cases++;
-    got = ask_engine(a, buffer + GUARD, room);
-    if (got != answer_of(text) || memcmp(buffer, want, sizeof buffer) || memcmp(card, card_was, a->card_len) ||
-        memcmp(vectors, vectors_was, a->vectors_len))
-        tell(name, a, text, got);
-    a->card = card_was;
-    a->vectors = vectors_was;
-    free(card);
-    free(vectors);
+    if (len)
+        memcpy(copy, bytes, len);
+    return copy;
 }
 
-/* One card with each list of vectors in a text. */
+/* Whether a lent copy is as it was; it is given back. */
+static int kept(uint8_t *copy, const uint8_t *was, size_t len)
+{
+    int same = !len || !memcmp(copy, was, len);
+    free(copy);
+    return same;
+}
+
+/* Lends copies, so that their bytes can be compared afterwards. */
+static void one_call(const char *name, const struct asked *a, size_t room, const char *text)
+{
+    uint8_t *card = copy_of(a->card, a->card_len), *second = copy_of(a->second, a->second_len);
+    uint8_t *vectors = copy_of(a->vectors, a->vectors_len);
+    struct asked lent = *a;
+    uint64_t got;
+    int all_kept;
+    lent.card = card;
+    lent.second = second;
+    lent.vectors = vectors;
+    expect_buffer(text);
+    cases++;
+    got = ask_engine(&lent, buffer + GUARD, room);
+    all_kept = kept(card, a->card, a->card_len) & kept(second, a->second, a->second_len) & kept(vectors, a->vectors, a->vectors_len);
+    if (got != answer_of(text) || memcmp(buffer, want, sizeof buffer) || !all_kept)
+        tell(name, a, text, got);
+}
+
+/* One card with each list of vectors, or of wires, in a text. */
 static void each_list(const char *name, struct asked *a, const char *card, const char *vectors, size_t room, const char *text)
 {
     uint8_t *card_bytes, *vector_bytes;
@@ -688,6 +850,20 @@ static void run_calls(void)
     }
 }
 
+static void run_joins(void)
+{
+    for (size_t i = 0; i < sizeof join_cases / sizeof *join_cases; i++) {
+        const struct join_case *c = join_cases + i;
+        struct asked a = { .call = JOIN };
+        uint8_t *second;
+        parse(c->b, &card_words);
+        second = bytes_of(&card_words, &a.second_len);
+        a.second = second;
+        each_list(c->name, &a, c->a, c->wires, c->room, c->want);
+        free(second);
+    }
+}
+
 /* The longest lists: vectors of 64 words for 1,023 inputs, all of them 1, 65,536 of them in 16 MiB. The
  * graph reads the last input, so of the 2,050 faults the node's 0-exit (0) and the two graphs held at 0
  * on its way (2,046 and 2,048) are caught. A word that is wrong at the very end is found. */
@@ -725,6 +901,7 @@ int main(void)
     run_checks();
     run_values();
     run_calls();
+    run_joins();
     run_longest_lists();
     differ += run_astray(&cases);
     printf("cases: %u cases, %u differ\n", cases, differ);

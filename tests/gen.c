@@ -247,6 +247,52 @@ void gen_vectors(struct input *in, unsigned count)
     }
 }
 
+/* ---- two cards and their wires ---- */
+
+void gen_wires(struct input *in, unsigned graphs, unsigned free)
+{
+    in->vectors_odd = 0;
+    in->vector_words = in->inputs;
+    for (unsigned i = 0; i < in->inputs; i++) {
+        int stays = gen_below(in->inputs - i) < free;
+        in->vectors[i] = stays ? 0xFFFFFFFFu : gen_below(graphs);
+        free -= stays;
+    }
+}
+
+/* A pair whose joined card has so many graphs and nodes, with inputs and outputs shared out at random. */
+static void put_pair(struct input *a, struct input *b, unsigned graphs, unsigned nodes)
+{
+    static const unsigned few[] = { 0, 0, 1, 15, 16, 100, 300 };
+    unsigned m = 1 + one_of(few, 7), free = one_of(few, 7), wired = one_of(few, 7) + (free == 0);
+    unsigned outs = graphs - m - free, outs_a = 1 + gen_below(outs - 1);
+    unsigned most, nodes_a;
+    if (free + wired + outs - outs_a > MAX_GRAPHS) /* B is a card itself */
+        outs_a = free + wired + outs - MAX_GRAPHS;
+    most = nodes - outs; /* beyond one for each output */
+    nodes_a = outs_a + gen_below(most + 1);
+    put_inputs(a, m);
+    put_graphs(a, outs_a, nodes_a);
+    put_inputs(b, free + wired);
+    put_graphs(b, outs - outs_a, nodes - nodes_a);
+    gen_wires(b, a->graphs, free);
+}
+
+void gen_limit_pair(struct input *a, struct input *b, unsigned number)
+{
+    unsigned fewer = 700 + gen_below(300), less = 1024 + gen_below(3000);
+    pick_style();
+    switch (number % GEN_PAIR_SHAPES) {
+    case 0: put_pair(a, b, 1024, 4096); break;
+    case 1: put_pair(a, b, 1024, less); break;
+    case 2: put_pair(a, b, fewer, 4096); break;
+    case 3: put_pair(a, b, 1025, less); break;
+    case 4: put_pair(a, b, fewer, 4097); break;
+    case 5: put_pair(a, b, 1025, 4097); break;
+    default: put_pair(a, b, 1023, 4095);
+    }
+}
+
 /* ---- spoiling ---- */
 
 static uint32_t changed(uint32_t w)
@@ -314,6 +360,20 @@ void gen_spoil_vectors(struct input *in)
     default:
         if (at < n)
             in->vectors[at] = changed(in->vectors[at]);
+    }
+}
+
+/* A word that names no graph, the end cut off, a word more, leftover bytes. */
+void gen_spoil_wires(struct input *in, unsigned graphs)
+{
+    static const uint32_t far[] = { 0xFFFFFFFE, 0x7FFFFFFF, 0x80000000, 0x10000, 0xFFFF, 1024 };
+    size_t n = in->vector_words, at = gen_below((uint32_t)n);
+    switch (gen_below(6)) {
+    case 0: in->vector_words = at; break;
+    case 1: insert(in->vectors, &in->vector_words, GEN_VECTOR_ROOM, at, gen_chance(50) ? 0xFFFFFFFFu : gen_below(graphs + 1)); break;
+    case 2: in->vectors_odd = 1 + gen_below(3); break;
+    case 3: in->vectors[at] = far[gen_below(6)]; break;
+    default: in->vectors[at] = graphs + gen_below(2);
     }
 }
 

@@ -29,11 +29,20 @@ void gen_small_card(struct input *in, unsigned most_inputs);
 enum { GEN_LIMIT_SHAPES = 12 };
 void gen_limit_card(struct input *in, unsigned number);
 
+/* Two cards and their wires, of which the joined card is at a limit, or one beyond it. */
+enum { GEN_PAIR_SHAPES = 7 };
+void gen_limit_pair(struct input *a, struct input *b, unsigned number);
+
 /* So many vectors, now and then out of a few that repeat. */
 void gen_vectors(struct input *in, unsigned count);
 
+/* Wire words for a card's inputs, so many of them free, the others on graphs below a number. They stand in
+ * the place of its vectors. */
+void gen_wires(struct input *in, unsigned graphs, unsigned free);
+
 void gen_spoil_card(struct input *in);
 void gen_spoil_vectors(struct input *in);
+void gen_spoil_wires(struct input *in, unsigned graphs);
 
 /* Words as bytes, with leftover bytes after them; the number of bytes. */
 size_t gen_bytes(const uint32_t *words, size_t count, unsigned odd, uint8_t *bytes);

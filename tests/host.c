@@ -1,119 +1,33 @@
-/* host.c: the engine against brute force, through all seven calls, on generated inputs.
+/* host.c: the engine against brute force, through the seven calls on one card, on generated inputs.
  *
  *   host [SEED]    the seed of the part that differs from run to run
  *
- * Answers and every byte are compared: the whole buffer, guard bytes on both sides of it, and the lent
- * card and vectors with theirs. Exits 1 on any difference, and where the inputs reached too little.
+ * Exits 1 on any difference, and where the inputs reached too little.
  */
-#include "calls.h"
-#include "gen.h"
+#include "compare.h"
 
 #include <stdio.h>
 #include <stdlib.h>
-#include <string.h>
 #include <time.h>
 
 enum { SMALL_INPUTS = 20000, FRESH_INPUTS = 2000, LIMIT_CARDS = 192, LIST_CARDS = 6 };
 
-/* ---- lent parts between guard bytes ---- */
-
-enum { GUARD = 64, ROOM = 4 * GEN_VECTOR_ROOM + 2 * GUARD + 8 };
-
-struct lent {
-    uint8_t now[ROOM], was[ROOM];
-    size_t front, len;
-};
-
-static struct lent card, vectors, buffer;
-static uint8_t wanted[ROOM]; /* the buffer as brute force leaves it */
-
-static size_t whole(const struct lent *l)
-{
-    return l->front + l->len + GUARD;
-}
-
-/* Lends len bytes, at any address, between guards; the bytes' place. */
-static uint8_t *lend(struct lent *l, const uint8_t *from, size_t len)
-{
-    l->front = GUARD + gen_below(4);
-    l->len = len;
-    memset(l->was, 0x5A, l->front);
-    memcpy(l->was + l->front, from, len);
-    memset(l->was + l->front + len, 0xA5, GUARD);
-    memcpy(l->now, l->was, whole(l));
-    return l->now + l->front;
-}
-
-static int intact(const struct lent *l)
-{
-    return !memcmp(l->now, l->was, whole(l));
-}
-
 /* ---- counting ---- */
 
 static struct {
-    unsigned inputs, limits, limits_accepted, cards_accepted, calls, done, refusals[13];
+    unsigned limits, limits_accepted, cards_accepted;
     unsigned odd_card, odd_vectors, odd_buffer, short_buffer, long_buffer;
     unsigned lists[4]; /* of 0, 1, 65,535 and 65,536 vectors */
-    unsigned differ;
 } total;
 
-static uint64_t seed_now;
-
-static void show_words(const char *name, const uint8_t *bytes, size_t len)
+static void count_room(size_t room, size_t words)
 {
-    printf("  %s, %zu bytes:", name, len);
-    for (size_t i = 0; i < len && i < 240; i++)
-        printf("%s%02X", i % 4 ? "" : " ", bytes[i]);
-    printf("%s\n", len > 240 ? " .." : "");
-}
-
-static void show_difference(const struct asked *a, uint64_t got, uint64_t want)
-{
-    total.differ++;
-    if (total.differ > 5)
-        return;
-    printf("DIFFERENCE: %s, seed %llu, input %u\n", call_names[a->call], (unsigned long long)seed_now, total.inputs);
-    printf("  engine answers %llu %llu, brute force %llu %llu\n", (unsigned long long)(got >> 32),
-           (unsigned long long)(got & 0xFFFFFFFFu), (unsigned long long)(want >> 32), (unsigned long long)(want & 0xFFFFFFFFu));
-    for (size_t i = 0; i < whole(&buffer); i++)
-        if (buffer.now[i] != wanted[i]) {
-            printf("  buffer byte %ld of %zu: %02X, should be %02X\n", (long)i - (long)buffer.front, buffer.len, buffer.now[i], wanted[i]);
-            break;
-        }
-    printf("%s%s  number %u\n", intact(&card) ? "" : "  the card was altered\n",
-           intact(&vectors) ? "" : "  the vectors were altered\n", (unsigned)a->number);
-    show_words("card", a->card, a->card_len);
-    show_words("vectors", a->vectors, a->vectors_len);
-}
-
-static void count_call(uint64_t answer)
-{
-    total.calls++;
-    if (answer >> 32)
-        total.refusals[answer >> 32 > 12 ? 0 : answer >> 32]++;
-    else
-        total.done++;
+    total.odd_buffer += room % 4 != 0;
+    total.short_buffer += room / 4 < words;
+    total.long_buffer += room / 4 > words;
 }
 
 /* ---- one call ---- */
-
-/* Asks both, with a buffer of so many bytes of any content. */
-static uint64_t compare(const struct asked *a, size_t room)
-{
-    static uint8_t content[ROOM];
-    uint64_t got, want;
-    for (size_t i = 0; i < room; i++)
-        content[i] = (uint8_t)(i * 131 + total.calls * 29 + 7);
-    lend(&buffer, content, room);
-    memcpy(wanted, buffer.was, whole(&buffer));
-    want = ask_brute(a, wanted + buffer.front, room);
-    got = ask_engine(a, buffer.now + buffer.front, room);
-    count_call(want);
-    if (got != want || memcmp(buffer.now, wanted, whole(&buffer)) || !intact(&card) || !intact(&vectors))
-        show_difference(a, got, want);
-    return want;
-}
 
 /* The words that a call writes at most. */
 static size_t words_of(enum call call, const struct input *in)
@@ -126,24 +40,6 @@ static size_t words_of(enum call call, const struct input *in)
     case TALLY: return faults;
     default: return in->graphs;
     }
-}
-
-/* A buffer's length in bytes: mostly enough, with words and leftover bytes to spare or not. */
-static size_t pick_room(size_t words)
-{
-    size_t room = 4 * words;
-    unsigned odd = gen_chance(40) ? 1 + gen_below(3) : 0;
-    switch (gen_below(12)) {
-    case 0: room = 4 * gen_below((uint32_t)words + 1); break;
-    case 1: room -= 4; break;
-    case 2: room += 4; break;
-    case 3: room += 4 * gen_below(20); break;
-    default: break;
-    }
-    total.odd_buffer += odd != 0;
-    total.short_buffer += room < 4 * words;
-    total.long_buffer += room > 4 * words;
-    return room + odd;
 }
 
 /* A fault's or a graph's number: mostly below the limit, else at it or far beyond. */
@@ -160,34 +56,32 @@ static int is_single(enum call call)
     return call == GOOD || call == FAULT || call == CHANGE || call == CRITICAL;
 }
 
-/* One call on the lent card and vectors. Calls on one vector mostly get the first one alone. */
+/* One call on the card and the vectors. Calls on one vector mostly get the first one alone. */
 static void one_call(struct asked *a, enum call call, const struct input *in, size_t list_len)
 {
-    size_t one = 4 * (size_t)((in->inputs + 15) / 16);
+    size_t one = 4 * (size_t)((in->inputs + 15) / 16), words = words_of(call, in), room = pick_room(words);
     a->call = call;
     a->vectors_len = list_len;
     if (is_single(call) && list_len > one && gen_chance(95))
         a->vectors_len = one;
     a->number = pick_number(call == FAULT ? (uint32_t)words_of(FIRST, in) : in->graphs);
-    uint64_t answer = compare(a, pick_room(words_of(call, in)));
+    count_room(room, words);
+    uint64_t answer = compare(a, room);
     if (call == CHECK && (answer == 0 || answer >> 32 == 12))
         total.cards_accepted++;
 }
 
-/* All seven calls on one input. */
+/* All calls on one card. */
 static void one_input(const struct input *in)
 {
-    static uint8_t bytes[ROOM];
-    struct asked a = { 0 };
-    size_t list_len;
-    a.card_len = gen_bytes(in->card, in->card_words, in->card_odd, bytes);
-    a.card = lend(&card, bytes, a.card_len);
-    list_len = gen_bytes(in->vectors, in->vector_words, in->vectors_odd, bytes);
-    a.vectors = lend(&vectors, bytes, list_len);
-    total.inputs++;
+    static uint8_t card[COMPARE_ROOM], vectors[COMPARE_ROOM];
+    struct asked a = { .card = card, .vectors = vectors };
+    size_t list_len = gen_bytes(in->vectors, in->vector_words, in->vectors_odd, vectors);
+    a.card_len = gen_bytes(in->card, in->card_words, in->card_odd, card);
+    compared.inputs++;
     total.odd_card += in->card_odd != 0;
     total.odd_vectors += in->vectors_odd != 0;
-    for (int call = CHECK; call < CALLS; call++)
+    for (int call = CHECK; call <= TALLY; call++)
         one_call(&a, (enum call)call, in, list_len);
 }
 
@@ -243,58 +137,44 @@ static void long_lists(unsigned cards)
 
 /* ---- the report ---- */
 
-static int too_few(const char *what, unsigned got, unsigned least)
-{
-    if (got >= least)
-        return 0;
-    printf("host: too few of %s: %u, should be at least %u\n", what, got, least);
-    return 1;
-}
-
 static int reached_too_little(void)
 {
-    int few = too_few("inputs", total.inputs, 20000) + too_few("accepted cards at the limits", total.limits_accepted, 100);
-    few += too_few("accepted cards", 3 * total.cards_accepted, total.inputs);
-    few += too_few("calls that are done", 3 * total.done, total.calls);
+    int few = too_few("inputs", compared.inputs, 20000) + too_few("accepted cards at the limits", total.limits_accepted, 100);
+    few += too_few("accepted cards", 3 * total.cards_accepted, compared.inputs);
+    few += too_few("calls that are done", 3 * compared.done, compared.calls);
     few += too_few("leftovers in cards", total.odd_card, 500) + too_few("leftovers in vectors", total.odd_vectors, 500);
     few += too_few("leftovers in buffers", total.odd_buffer, 5000) + too_few("short buffers", total.short_buffer, 5000);
     for (unsigned r = 1; r <= 12; r++)
-        few += too_few("one refusal", total.refusals[r], 20);
+        few += too_few("one refusal", compared.refusals[r], 20);
     return few;
 }
 
 static void report(void)
 {
     printf("host: %u inputs, %u cards accepted; of them at the limits or one beyond %u, %u accepted; %u calls, %u done\n",
-           total.inputs, total.cards_accepted, total.limits, total.limits_accepted, total.calls, total.done);
+           compared.inputs, total.cards_accepted, total.limits, total.limits_accepted, compared.calls, compared.done);
     printf("host: refusals");
     for (unsigned r = 1; r <= 12; r++)
-        printf(" %u:%u", r, total.refusals[r]);
+        printf(" %u:%u", r, compared.refusals[r]);
     printf("\nhost: leftovers in %u cards, %u vectors, %u buffers; %u buffers short, %u long\n", total.odd_card,
            total.odd_vectors, total.odd_buffer, total.short_buffer, total.long_buffer);
     printf("host: lists of 0, 1, 65535, 65536 vectors: %u %u %u %u\n", total.lists[0], total.lists[1], total.lists[2], total.lists[3]);
-    printf("host: %u differ\n", total.differ);
-}
-
-static void seed(uint64_t s)
-{
-    seed_now = s;
-    gen_seed(s);
+    printf("host: %u differ\n", compared.differ);
 }
 
 int main(int argc, char **argv)
 {
     uint64_t fresh = argc > 1 ? strtoull(argv[1], NULL, 10) : (uint64_t)time(NULL);
-    seed(1);
+    compare_seed(1);
     small_inputs(SMALL_INPUTS);
-    seed(2);
+    compare_seed(2);
     limit_inputs(LIMIT_CARDS);
-    seed(3);
+    compare_seed(3);
     long_lists(LIST_CARDS);
     printf("host: fresh seed %llu\n", (unsigned long long)fresh);
-    seed(fresh);
+    compare_seed(fresh);
     small_inputs(FRESH_INPUTS);
     limit_inputs(GEN_LIMIT_SHAPES);
     report();
-    return reached_too_little() || total.differ;
+    return reached_too_little() || compared.differ;
 }

@@ -14,14 +14,18 @@
 
 enum { STACK = 16 << 20, FILL = 0x5C, WORDS = 9216 };
 
-static uint8_t card[4 * WORDS], vector[4 * 64], buffer[4 * 10240];
+static uint8_t card[4 * WORDS], vector[4 * 64], wires[4 * 1024], buffer[4 * 10240];
 static size_t words, vector_words;
+
+static void put_word(uint8_t *bytes, size_t at, uint32_t w)
+{
+    for (unsigned i = 0; i < 4; i++)
+        bytes[4 * at + i] = (uint8_t)(w >> (24 - 8 * i));
+}
 
 static void put(uint32_t w)
 {
-    for (unsigned i = 0; i < 4; i++)
-        card[4 * words + i] = (uint8_t)(w >> (24 - 8 * i));
-    words++;
+    put_word(card, words++, w);
 }
 
 /* An observable graph of n nodes that read one graph, the path going through all of them where it is 1. */
@@ -45,11 +49,7 @@ static void make_card(unsigned inputs, unsigned graphs, unsigned n)
     vector_words = (inputs + 15) / 16;
     for (unsigned j = 0; j < vector_words; j++) {
         unsigned left = inputs - 16 * j;
-        uint32_t bits = left < 16 ? (1u << left) - 1 : 0xFFFF;
-        vector[4 * j] = 0xA0;
-        vector[4 * j + 1] = 0;
-        vector[4 * j + 2] = (uint8_t)(bits >> 8);
-        vector[4 * j + 3] = (uint8_t)bits;
+        put_word(vector, j, 0xA0000000u + (left < 16 ? (1u << left) - 1 : 0xFFFF));
     }
 }
 
@@ -86,15 +86,31 @@ static size_t measure(struct asked *a)
 
 static size_t most[CALLS];
 
+static void take_in(struct asked *a)
+{
+    size_t used = measure(a);
+    if (used > most[a->call])
+        most[a->call] = used;
+}
+
 static void each_call(void)
 {
-    for (int call = CHECK; call < CALLS; call++) {
-        /* fault 1 forces the exit that is taken anyway, so that the path stays as long */
-        struct asked a = { (enum call)call, card, 4 * words, vector, 4 * vector_words, call == FAULT };
-        size_t used = measure(&a);
-        if (used > most[call])
-            most[call] = used;
+    for (int call = CHECK; call <= TALLY; call++) {
+        struct asked a = { .call = (enum call)call, .card = card, .card_len = 4 * words, .vectors = vector, .vectors_len = 4 * vector_words };
+        a.number = call == FAULT; /* fault 1 forces the exit that is taken anyway, so that the path stays as long */
+        take_in(&a);
     }
+}
+
+/* The card on itself, all inputs wired to its last graphs. */
+static void join_itself(unsigned inputs, unsigned graphs)
+{
+    struct asked a = { .call = JOIN, .card = card, .card_len = 4 * words, .vectors = wires, .vectors_len = 4 * (size_t)inputs };
+    a.second = card;
+    a.second_len = a.card_len;
+    for (unsigned i = 0; i < inputs; i++)
+        put_word(wires, i, graphs - 1 - i);
+    take_in(&a);
 }
 
 int main(void)
@@ -106,6 +122,10 @@ int main(void)
     each_call();
     make_card(512, 512, 8); /* all three limits */
     each_call();
+    make_card(512, 256, 8); /* twice half of them */
+    join_itself(512, 768);
+    make_card(1, 1, 2048);
+    join_itself(1, 2);
     printf("stack:");
     for (int call = CHECK; call < CALLS; call++) {
         printf(" %s %zu", call_names[call], most[call]);

@@ -5,7 +5,7 @@ use mathlib.Core.List.{List, [], _∷_}
 use lib.ListN.{getD}
 use Rattle.answers.specs.declared.Rule.{Rule}
 use Rattle.answers.specs.declared.Rule.the-variants.{CardTooLong, TooManyGraphs, NodeCount, WordNotDue, StrayBit, ReadNotBelow, ExitNotLater}
-use Rattle.answers.specs.declared.Rule.the-variants.{NodeNotNamed, NothingObservable, VectorForm, NumberTooHigh, BufferTooShort}
+use Rattle.answers.specs.declared.Rule.the-variants.{NodeNotNamed, NothingObservable, VectorForm, NumberTooHigh, BufferTooShort, WireForm, JoinedTooLarge}
 use Rattle.answers.specs.declared.Answer.{Answer}
 use Rattle.answers.specs.declared.Answer.the-variants as answer
 use Rattle.answers.specs.declared.Reply.{Reply}
@@ -16,7 +16,8 @@ use Rattle.answers.specs.Answers.{numberOf, Told, answerTold, replyTold}
 abbrev rules : List Rule
 rules =
     CardTooLong ∷ TooManyGraphs ∷ NodeCount ∷ WordNotDue ∷ StrayBit ∷ ReadNotBelow
-    ∷ ExitNotLater ∷ NodeNotNamed ∷ NothingObservable ∷ VectorForm ∷ NumberTooHigh ∷ BufferTooShort ∷ []
+    ∷ ExitNotLater ∷ NodeNotNamed ∷ NothingObservable ∷ VectorForm ∷ NumberTooHigh ∷ BufferTooShort
+    ∷ WireForm ∷ JoinedTooLarge ∷ []
 
 abbrev ruleOf : ℕ → Rule
 ruleOf n = getD rules (n - 1) CardTooLong
@@ -35,6 +36,8 @@ rule-of NothingObservable = refl
 rule-of VectorForm = refl
 rule-of NumberTooHigh = refl
 rule-of BufferTooShort = refl
+rule-of WireForm = refl
+rule-of JoinedTooLarge = refl
 
 -- a refusal has no values: the answer, and the reply, of a rule, a position and values
 abbrev answerBy : Rule → ℕ → List ℕ → Answer

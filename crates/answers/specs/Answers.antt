@@ -1,10 +1,10 @@
--- Document 01's number, position and values for each case of our answers: the promises of the calls use these. Only `numberOf` goes by cases on the
--- rules. Assumes nothing.
+-- Document 01's number, position and values for each case of our answers, and from 13 on document 02's: the promises of the calls use these. Only
+-- `numberOf` goes by cases on the rules. Assumes nothing.
 use Prim.Native.Nat.{ℕ}
 use mathlib.Core.List.{List, [], _∷_}
 use Rattle.answers.specs.declared.Rule.{Rule}
 use Rattle.answers.specs.declared.Rule.the-variants.{CardTooLong, TooManyGraphs, NodeCount, WordNotDue, StrayBit, ReadNotBelow, ExitNotLater}
-use Rattle.answers.specs.declared.Rule.the-variants.{NodeNotNamed, NothingObservable, VectorForm, NumberTooHigh, BufferTooShort}
+use Rattle.answers.specs.declared.Rule.the-variants.{NodeNotNamed, NothingObservable, VectorForm, NumberTooHigh, BufferTooShort, WireForm, JoinedTooLarge}
 use Rattle.answers.specs.declared.Counts.{Counts}
 use Rattle.answers.specs.declared.Answer.{Answer}
 use Rattle.answers.specs.declared.Answer.the-variants as answer
@@ -25,6 +25,8 @@ numberOf NothingObservable = 9
 numberOf VectorForm = 10
 numberOf NumberTooHigh = 11
 numberOf BufferTooShort = 12
+numberOf WireForm = 13
+numberOf JoinedTooLarge = 14
 
 -- WHAT A CALL BY WORDS TELLS, in document 01's numbers: a refusal's number and position and no values, or values and both numbers 0. The words of a
 -- lent buffer have an equation of their own.
@@ -49,7 +51,8 @@ unfolding numberOf
 answerTold (answer.Accepted c) = result (valuesOf c)
 answerTold (answer.Refused rule position) = refusal (numberOf rule) position
 
--- any other call tells one number, or its refusal: the length of a change list, the marked count of a grading, else 0
+-- any other call tells one number, or its refusal: the length of a change list, the marked count of a grading, the number of words of a joined card,
+-- else 0
 unfoldable pub replyTold : Reply → Told
 unfolding numberOf
 replyTold (reply.Done number) = result (number ∷ [])

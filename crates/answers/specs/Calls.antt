@@ -1,5 +1,5 @@
 -- A call on a card: the card's check comes first, then the form of the call's vectors, then the call's own tests in their order. A refusal alters
--- nothing. Each call is told by these, in words or in bytes. Assumes nothing.
+-- nothing. Each call on one card is told by these, in words or in bytes; one on two cards through them (`wiring`). Assumes nothing.
 use Prim.Native.Nat.{ℕ}
 use mathlib.Core.List.{List}
 use Rattle.answers.specs.declared.Counts.{Counts}

@@ -1,9 +1,9 @@
-// Document 01's rules, the answers of a check and the replies of calls; in specs/ document 01's numbers for each, how tests come in their order, and
+// The rules of documents 01 and 02, the answers of a check and the replies of calls; in specs/ document 01's numbers for each, how tests come in their order, and
 // how any call goes.
 ghost use mathlib.Core.Path.{_≡_};
 ghost use Rattle.answers.specs.Answers.{numberOf};
 
-// The rules of document 01's table of refusals. `rule_number` gives each its number.
+// The rules of document 01's table of refusals, and those of the later requests. `rule_number` gives each its number.
 pub enum Rule {
     CardTooLong,
     TooManyGraphs,
@@ -17,6 +17,8 @@ pub enum Rule {
     VectorForm,
     NumberTooHigh,
     BufferTooShort,
+    WireForm,
+    JoinedTooLarge,
 }
 
 // The numbers that a check answers.
@@ -34,8 +36,8 @@ pub enum Answer {
     Refused(Rule, usize),
 }
 
-// The reply of a call that works on a card: done, with the number that document 01 says it tells beside its buffer (the length of a
-// change list, the marked count of a grading, else 0); or refused, as a check is.
+// The reply of a call that works on cards: done, with the number that it tells beside its buffer (the length of a change list, the marked
+// count of a grading, the number of words of a joined card, else 0); or refused, as a check is.
 pub enum Reply {
     Done(usize),
     Refused(Rule, usize),
@@ -47,7 +49,7 @@ pub enum Verdict {
     Broken(Rule, usize),
 }
 
-// A rule's number in document 01.
+// A rule's number: 1 to 12 in document 01, from 13 on in document 02.
 pub fn rule_number(rule: Rule) -> u32
     ensures { λ r. ⌜ r ≡ numberOf rule ⌝ }
 {
@@ -64,5 +66,7 @@ pub fn rule_number(rule: Rule) -> u32
         Rule::VectorForm => 10,
         Rule::NumberTooHigh => 11,
         Rule::BufferTooShort => 12,
+        Rule::WireForm => 13,
+        Rule::JoinedTooLarge => 14,
     }
 }

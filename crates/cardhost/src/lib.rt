@@ -1,4 +1,4 @@
-// The calls for the fixture's host, in C: a card, a vector and a buffer are bytes, each word four of them, highest byte first, and the answer is one 64-bit
+// The calls for the fixture's host, in C: cards, vectors, wires and buffers are bytes, each word four of them, highest byte first, and the answer is one 64-bit
 // number.
 ghost use mathlib.Core.Path.{_≡_};
 ghost use mathlib.Core.List.{[], _∷_};
@@ -6,6 +6,7 @@ ghost use Rattle.hostcheck.specs.Calls.{checkAnswer, checkBytes};
 ghost use Rattle.hostvalues.specs.Calls.{valuesAnswer, valuesBytes};
 ghost use Rattle.hostchanges.specs.Calls.{changeAnswer, changeBytes, criticalAnswer, criticalBytes};
 ghost use Rattle.hostgrade.specs.Calls.{gradeAnswer, markBytes, tallyBytes};
+ghost use Rattle.hostjoin.specs.Calls.{joinAnswer, joinBytes};
 
 // Check: the numbers of inputs, graphs, nodes, observable graphs and faults, in a buffer of at least five words.
 #[no_mangle]
@@ -73,4 +74,13 @@ pub extern "C" fn card_tally(card: &[u8], vectors: &[u8], tallies: &mut [u8]) ->
         × (now (tallies .exit) ≡ tallyBytes (now (card .entry)) (now (vectors .entry)) (now (tallies .entry))) ⌝ }
 {
     hostgrade::tally(card, vectors, tallies)
+}
+
+// Two cards wired together: the number of the joined card's words, which stand in the front of the buffer.
+#[no_mangle]
+pub extern "C" fn card_join(a: &[u8], b: &[u8], wires: &[u8], card: &mut [u8]) -> u64
+    ensures { λ r. ⌜ (r ≡ joinAnswer (now (a .entry)) (now (b .entry)) (now (wires .entry)) (now (card .entry)))
+        × (now (card .exit) ≡ joinBytes (now (a .entry)) (now (b .entry)) (now (wires .entry)) (now (card .entry))) ⌝ }
+{
+    hostjoin::join(a, b, wires, card)
 }

@@ -4,12 +4,12 @@ use mathlib.Core.Path.{_≡_, sym, _∙_}
 use mathlib.Core.List.{List}
 use mathlib.Core.Bool.{Bool}
 use native.Mathlib.Omega.{arith}
-use lib.ListN.{length, take, drop}
-use lib.Seq.{take-at}
+use lib.ListN.{length, take}
 use Rattle.lists.specs.Counting.{count}
 use Rattle.lists.specs.Tables.{tab, over, chosen, front}
 use Rattle.lists.proofs.Counting.{count-le}
 use Rattle.lists.proofs.Tables.{length-chosen, over-front}
+use Rattle.lists.proofs.Front.{front-taken}
 use Rattle.word32.specs.Bytes.{byteOf}
 use Rattle.inbytes.specs.Calls.{asBytes}
 
@@ -29,5 +29,4 @@ count-few p m n e = omega (arith, count-le p m)
 pub chosen-left : (p : ℕ → Bool) (m n : ℕ) (d out b left : List ℕ) → n ≡ count p m → out ≡ front (chosen p m) d
     → left ≡ over (length (take n out) * 4) (byteOf (take n out)) b → left ≡ asBytes (chosen p m) b
 chosen-left p m n d out b left i e h =
-    bytes-left (chosen p m) (take n out) b left
-    (rw e (take-at (chosen p m) (drop (length (chosen p m)) d) n (length-chosen p m ∙ sym i))) h
+    bytes-left (chosen p m) (take n out) b left (front-taken (chosen p m) d (i ∙ sym (length-chosen p m)) e) h

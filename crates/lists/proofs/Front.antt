@@ -36,13 +36,15 @@ tab-map f l m z =
     tab-at g (length l - m) i (omega (arith, length-tab g (length l - m)))
     ∙ sym (ap (getD (map f (drop m l)) i) (sym z) ∙ List·getD-map f (drop m l) i 0 ∙ ap f (getD-drop m l i 0)))
 
--- words that follow those at the front of a buffer
+-- the words at the front of a buffer, and words that follow them
+pub front-taken : (xs d : List ℕ) {out : List ℕ} {n : ℕ} → n ≡ length xs → out ≡ front xs d → take n out ≡ xs
+front-taken xs d {out} {n} e q = ap (take n) q ∙ take-at xs (drop (length xs) d) n (sym e)
+
 pub front-on : (xs ys d out : List ℕ) (n : ℕ) → length xs ≡ n → out ≡ front xs d → front (take n out ++ ys) out ≡ front (xs ++ ys) d
 front-on xs ys d out n e q =
-    let t : take n out ≡ xs = ap (take n) q ∙ take-at xs (drop (length xs) d) n e in
     let u : drop (length (xs ++ ys)) out ≡ drop (length (xs ++ ys)) d =
     rw (length-append xs ys, q) (drop-append-add xs (drop (length xs) d) (length ys) ∙ drop-drop (length ys) (length xs) d) in
-    rw t (ap ((xs ++ ys) ++_) u)
+    rw (front-taken xs d (sym e) q) (ap ((xs ++ ys) ++_) u)
 
 pub length-front : (xs d : List ℕ) → length xs ≤ length d → length (front xs d) ≡ length d
 length-front xs d h = length-append xs (drop (length xs) d) ∙ rw (length-drop (length xs) d) (omega arith)

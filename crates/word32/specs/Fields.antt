@@ -1,5 +1,5 @@
 -- The fields of a 32-bit word, by division and remainder. Bit 0 is the lowest. Assumes nothing.
-use Prim.Native.Nat.{ℕ, zero, suc, _/_, _%_, _^_}
+use Prim.Native.Nat.{ℕ, zero, suc, _+_, _-_, _/_, _%_, _^_}
 
 -- bits 31..29: what kind of word it is
 abbrev pub kind : ℕ → ℕ
@@ -28,6 +28,10 @@ nodeCount w = w % 2 ^ 16
 -- bits 15..0 of a read: which graph is read
 abbrev pub readGraph : ℕ → ℕ
 readGraph w = w % 2 ^ 16
+
+-- the read w with graph g, below 2 ^ 16, in the place of its own: every other bit stays
+abbrev pub withRead : ℕ → ℕ → ℕ
+withRead w g = w - readGraph w + g
 
 -- one of a pair of exits: at decision 0 bits 27..14, at decision 1 bits 13..0
 abbrev pub exitOf : ℕ → ℕ → ℕ

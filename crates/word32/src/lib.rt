@@ -3,7 +3,7 @@ ghost use mathlib.Core.Path.{_≡_};
 ghost use Prim.Native.Nat.{_+_, _*_, _/_, _<_, _≤_};
 ghost use lib.ListN.{length};
 ghost use Rattle.lists.specs.Tables.{over};
-ghost use Rattle.word32.specs.Fields.{kind, inputSpare, headerSpare, readSpare, exitsSpare, nodeCount, readGraph, exitOf, bitOf};
+ghost use Rattle.word32.specs.Fields.{kind, inputSpare, headerSpare, readSpare, exitsSpare, nodeCount, readGraph, withRead, exitOf, bitOf};
 ghost use Rattle.word32.specs.Bytes.{wordAt, setWord, byteOf};
 
 // Bits 31..29: what kind of word it is.
@@ -53,6 +53,14 @@ pub fn read_graph(w: u32) -> usize
     ensures { λ r. ⌜ r ≡ readGraph w ⌝ }
 {
     (w & 0xFFFF) as usize
+}
+
+// A read with another graph's number; every other bit stays.
+pub fn with_read(w: u32, g: usize) -> u32
+    requires { ⌜ withRead w g < 4294967296 ⌝ }
+    ensures { λ r. ⌜ r ≡ withRead w g ⌝ }
+{
+    w - read_graph(w) as u32 + g as u32
 }
 
 // The exit at decision 0: bits 27..14.

@@ -1,0 +1,4 @@
+pub mod Calls
+pub mod Done
+pub mod Accepted
+pub mod Numbers

@@ -1,0 +1,4 @@
+pub mod Joined
+pub mod Calls
+pub mod Parts
+pub mod Both

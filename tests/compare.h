@@ -1,0 +1,34 @@
+/* compare.h: a call asked of the engine and of brute force, on parts lent between guard bytes, at any address.
+ *
+ * The answers and every byte are compared: the whole buffer, the guards on both sides of it, and the other
+ * lent parts with theirs.
+ */
+#ifndef COMPARE_H
+#define COMPARE_H
+
+#include "calls.h"
+#include "gen.h"
+
+enum { COMPARE_ROOM = 4 * GEN_VECTOR_ROOM + 8, COMPARE_RULES = 14 }; /* the most bytes of a part; refusals */
+
+/* What has come of all calls so far; and for what is said of a difference, the input that they are on. */
+extern struct compared {
+    unsigned calls, done, refusals[COMPARE_RULES + 1], differ;
+    const uint8_t *buffer; /* as the engine left it */
+    uint64_t seed;
+    unsigned inputs;
+} compared;
+
+/* Seeds the inputs that follow. */
+void compare_seed(uint64_t seed);
+
+/* Lends copies of what is asked and a buffer of so many bytes of any content; brute force's answer. */
+uint64_t compare(const struct asked *a, size_t room);
+
+/* Says where there are fewer than there should be: 1, else 0. */
+int too_few(const char *what, unsigned got, unsigned least);
+
+/* A buffer's length in bytes for so many words: mostly enough, with words and leftover bytes to spare or not. */
+size_t pick_room(size_t words);
+
+#endif
