@@ -1,7 +1,8 @@
 -- Nothing is lost in document 01's numbers: answers, and replies, that tell the same are the same. Assumes nothing.
-use Prim.Native.Nat.{ℕ, _-_}
+use Prim.Native.Nat.{ℕ, zero, suc, _-_, _<_}
 use mathlib.Core.Path.{_≡_, refl, sym, ap, _∙_}
 use mathlib.Core.List.{List, [], _∷_}
+use native.Mathlib.Omega.{arith}
 use lib.ListN.{getD}
 use Rattle.answers.specs.declared.Rule.{Rule}
 use Rattle.answers.specs.declared.Rule.the-variants.{CardTooLong, TooManyGraphs, NodeCount, WordNotDue, StrayBit, ReadNotBelow, ExitNotLater}
@@ -38,6 +39,15 @@ rule-of NumberTooHigh = refl
 rule-of BufferTooShort = refl
 rule-of WireForm = refl
 rule-of JoinedTooLarge = refl
+
+-- and no rule has the number 0
+pub number-some : (r : Rule) → 0 < numberOf r
+unfolding numberOf
+number-some r = go (numberOf r) refl
+  where
+    go : (n : ℕ) → numberOf r ≡ n → 0 < n
+    go zero e = let y : 1 ≡ numberOf r = ap numberOf (rw e at (rule-of r)) in absurd (omega arith)
+    go (suc n) e = omega arith
 
 -- a refusal has no values: the answer, and the reply, of a rule, a position and values
 abbrev answerBy : Rule → ℕ → List ℕ → Answer

@@ -16,16 +16,19 @@ use Rattle.answers.specs.declared.Verdict.{Verdict}
 use Rattle.answers.specs.declared.Verdict.the-variants.{Sound, Broken}
 use Rattle.answers.specs.declared.Answer.{Answer}
 use Rattle.answers.specs.declared.Answer.the-variants.{Accepted, Refused}
+use Rattle.answers.specs.declared.Reply.{Reply}
+use Rattle.answers.specs.declared.Reply.the-variants as reply
 use Rattle.answers.specs.Tests.{Test, test, firstBroken}
 use Rattle.form.specs.Check.{checkedWith}
 use Rattle.answers.specs.Calls.{opened}
 use Rattle.layout.specs.Shape.{Shape, Accepts}
 use Rattle.form.proofs.Checked.{check-accepts}
+use Rattle.answers.proofs.Answers.{number-some}
 use Rattle.answers.proofs.Calls.{opened-accepted}
 use Rattle.answers.proofs.Tests.{then-sound}
 use Rattle.testvectors.specs.Vectors.{width, vectorVerdict, listVerdict}
 use Rattle.testvectors.proofs.Laws.{vector-long}
-use Rattle.inbytes.specs.Calls.{hostCheck, leftover, hostForm}
+use Rattle.inbytes.specs.Calls.{hostCheck, leftover, hostForm, hostAnswer}
 use Rattle.inbytes.specs.Opened.{hostOpened, WordsIn}
 use Rattle.inbytes.proofs.Form.{form-whole}
 use Rattle.form.proofs.Positions.{Low, LowAnswer, LowTests, tests-low, then-low, onward-low, check-low, low-position, check-position}
@@ -81,6 +84,11 @@ module _ (verdict : ℕ → List ℕ → Verdict) (card v : List ℕ) {c : Count
   unfolding hostForm
   bytes-sound =
       then-sound (leftover v) (verdict (c .inputs) (wordsOf v)) (opened-accepted (hostCheck card) (λ c. hostForm verdict (c .inputs) v) e .1) .1
+
+-- a number below 2 ^ 32 is no refusal: the host knows from it that the call is done
+pub number-done : (r : Reply) → hostAnswer r < 4294967296 → r ≡ reply.Done (hostAnswer r)
+number-done (reply.Done n) h = refl
+number-done (reply.Refused rule p) h = absurd (omega (arith, number-some rule))
 
 -- refusals stand below 2 ^ 32
 pub card-low : (card : List ℕ) {r : Rule} {p : ℕ} → hostCheck card ≡ Refused r p → p < 4294967296

@@ -18,6 +18,8 @@ join-done a b wires d n e =
     record {
       first = w .first;
       second = w .second;
+      first-accepted = w .first-accepted;
+      second-accepted = w .second-accepted;
       both = joined-both a b wires (length (joined (w .first) (w .second) wires a b)) (length d) (w .first-accepted) (w .second-accepted) (w .passed);
       number = w .told;
       words = both-left (checked a) (checked b) (length a) (ownTests a b wires (length d)) (λ A B. length (joined A B wires a b)) (λ A B. front (joined A B wires a b) d) d w;
