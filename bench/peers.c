@@ -2,11 +2,9 @@
  *
  *   peers MODE [--repeat N] [--first K] [--quiet] < card-and-vectors
  *
- * serial      every fault re-evaluated for every vector
- * path        one vector at a time by the marking rules, event-driven
- * ppsfp       64 vectors a word, flips of stems propagated event-driven
- * ppsfp-drop  the same, first vector only, faults dropped once caught
- *             (its tally column is 1 for caught, 0 for not)
+ * serial  every fault re-evaluated for every vector
+ * path    one vector at a time by the marking rules, event-driven
+ * ppsfp   64 vectors a word, flips of stems propagated event-driven
  *
  * Reads cardgrade's input, writes cardgrade's output.  To stderr: the mode, the
  * best and the mean time of the grading (from checked words in memory to marks
@@ -438,7 +436,6 @@ int main(int argc, char **argv)
 {
     static const struct { const char *name; void (*run)(void); } mode[] = {
         { "serial", run_serial }, { "path", run_path }, { "ppsfp", run_64 },
-        { "ppsfp-drop", drop_64 },
     };
     int m = -1, repeat = 1, cut = -1, quiet = 0;
     for (int i = 1; i < argc; i++) {
@@ -454,8 +451,7 @@ int main(int argc, char **argv)
                     m = k;
     }
     if (m < 0 || repeat < 1) {
-        fprintf(stderr, "usage: peers serial|path|ppsfp|ppsfp-drop"
-                        " [--repeat N] [--first K] [--quiet] < input\n");
+        fprintf(stderr, "usage: peers serial|path|ppsfp [--repeat N] [--first K] [--quiet] < input\n");
         return 2;
     }
     read_input();

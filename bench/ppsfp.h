@@ -73,10 +73,10 @@ static inline void NAME(wake)(int c, WT d)
 /* Of the vectors in want, those where graph g's flip reaches an observable.
  * U: vectors not decided yet.  When h changes and nothing above h reads any
  * other changed graph (top <= h), what follows is just what follows from
- * flipping h alone, and obs[h] decides (obs is known for the vectors kn[h], for
- * all if kn is null).  top goes by all readers, active or not: an inactive node
- * may be reached after the flip.  Nothing above top is ever in the queue. */
-static WT NAME(stem)(int g, WT want, const WT *kn)
+ * flipping h alone, and obs[h] decides.  top goes by all readers, active or not:
+ * an inactive node may be reached after the flip.  Nothing above top is ever in
+ * the queue. */
+static WT NAME(stem)(int g, WT want)
 {
     WT *gv = NAME(gv), *fv = NAME(fv);
     WT U = want, O = ZERO;
@@ -100,21 +100,16 @@ static WT NAME(stem)(int g, WT want, const WT *kn)
         if (kind[h] == 2) {
             O |= d;
             U &= ~d;
+        } else if (top <= h) {
+            O |= d & NAME(ob)[h];
+            U &= ~d;
         } else {
-            if (top <= h) {
-                WT k = kn ? d & kn[h] : d;
-                O |= k & NAME(ob)[h];
-                U &= ~k;
-                d &= ~k;
-            }
-            if (ANY(d)) {
-                fv[h] = gv[h] ^ d;
-                changed[nc++] = h;
-                if (top < maxr[h])
-                    top = maxr[h];
-                NAME(wake)(h, d);
-                continue;
-            }
+            fv[h] = gv[h] ^ d;
+            changed[nc++] = h;
+            if (top < maxr[h])
+                top = maxr[h];
+            NAME(wake)(h, d);
+            continue;
         }
         if (!ANY(U)) {
             for (; wi <= top >> 6; wi++)
@@ -156,7 +151,7 @@ static void NAME(run)(void)
             else if (fostart[g] + 1 == fostart[g + 1])
                 o = NAME(sen)[fo[fostart[g]].node] & ob[fo[fostart[g]].graph];
             else
-                o = NAME(stem)(g, valid, 0);
+                o = NAME(stem)(g, valid);
             ob[g] = o;
             if (!ANY(o))
                 continue;
@@ -168,87 +163,5 @@ static void NAME(run)(void)
             NAME(count)(2 * N + 2 * g, o & gv[g], base);
             NAME(count)(2 * N + 2 * g + 1, o & ~gv[g], base);
         }
-    }
-}
-
-/* First vector only.  A fault once caught is dropped; a graph whose faults are
- * all caught is not a target any more, and the rest of a block is done only for
- * the vectors that would flip the graph by a fault not yet caught. */
-static void NAME(drop)(void)
-{
-    WT *gv = NAME(gv), *ob = NAME(ob);
-    static WT kn[MAXG];
-    static uint16_t target[MAXG];
-    int nt = 0;
-    NAME(tmp)[0] = ZERO;
-    NAME(tmp)[1] = ONES;
-    NAME(columns_start)();
-    for (int g = G - 1; g >= 0; g--)
-        if (live_graph[g])
-            target[nt++] = g;
-    for (int base = 0; base < V && nt; base += WBITS) {
-        WT valid = VALID(V - base);
-        NAME(columns)(base, gv);
-        for (int g = M; g < G; g++)
-            NAME(good)(g);
-        memcpy(NAME(fv), gv, G * sizeof(WT));
-        for (int g = 0; g < G; g++)
-            kn[g] = kind[g] == 2 ? ONES : ZERO, ob[g] = kind[g] == 2 ? valid : ZERO;
-        int k = 0;
-        for (int i = 0; i < nt; i++) {
-            int g = target[i];
-            unsigned q = 2 * N + 2 * g;
-            WT need = ZERO;
-            int open = 0;
-            if (first[q] < 0)
-                need |= gv[g], open++;
-            if (first[q + 1] < 0)
-                need |= ~gv[g], open++;
-            for (int j = gfirst[g]; j < gfirst[g + 1]; j++) {
-                if (nd[j].e[0] == nd[j].e[1])
-                    continue;
-                WT r = gv[nd[j].read];
-                if (first[2 * j] < 0)
-                    need |= NAME(sen)[j] & r, open++;
-                if (first[2 * j + 1] < 0)
-                    need |= NAME(sen)[j] & ~r, open++;
-            }
-            if (!open)
-                continue;
-            target[k++] = g;
-            need &= valid;
-            if (!ANY(need))
-                continue;
-            if (kind[g] != 2) {
-                if (fostart[g] + 1 == fostart[g + 1]) {
-                    int h = fo[fostart[g]].graph;
-                    WT s = NAME(sen)[fo[fostart[g]].node];
-                    kn[g] = kn[h] | ~s;
-                    ob[g] = s & ob[h];
-                }
-                if (ANY(need & ~kn[g])) {
-                    WT o = NAME(stem)(g, need & ~kn[g], kn);
-                    ob[g] |= o;
-                    kn[g] |= need;
-                }
-            }
-            WT o = ob[g] & need;
-            if (!ANY(o))
-                continue;
-#define DROP(f, m) do { \
-            WT d_ = (m); \
-            if (first[f] < 0 && ANY(d_)) \
-                first[f] = base + LOW(d_), tally[f] = 1; \
-        } while (0)
-            for (int j = gfirst[g]; j < gfirst[g + 1]; j++) {
-                WT d = NAME(sen)[j] & o, r = gv[nd[j].read];
-                DROP(2 * j, d & r);
-                DROP(2 * j + 1, d & ~r);
-            }
-            DROP(q, o & gv[g]);
-            DROP(q + 1, o & ~gv[g]);
-#undef DROP
-        }
-        nt = k;
     }
 }

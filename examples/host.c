@@ -52,16 +52,15 @@ static void print_fault(uint32_t fault)
         printf("%u %u %u\n", (unsigned)fault, (unsigned)(mark - 0xE0000000), (unsigned)word(tallies, fault));
 }
 
-/* Grades the list and answers the exit status. The buffers are long enough for every card, so what the
- * first call takes the other two take as well. */
+/* Grades the list and answers the exit status. The buffers are long enough for every card, so a card that
+ * is graded passes the check as well. */
 static int grade(void)
 {
-    uint64_t marked = card_first_marking(card, card_len, vectors, vectors_len, marks, sizeof marks);
+    uint64_t marked = card_grade(card, card_len, vectors, vectors_len, marks, sizeof marks, tallies, sizeof tallies);
     if (CARD_REFUSAL(marked)) {
         printf("refused %u %u\n", (unsigned)CARD_REFUSAL(marked), (unsigned)CARD_POSITION(marked));
         return 1;
     }
-    card_tally(card, card_len, vectors, vectors_len, tallies, sizeof tallies);
     card_check(card, card_len, numbers, sizeof numbers);
     printf("card %u %u %u %u\n", (unsigned)word(numbers, 0), (unsigned)word(numbers, 1), (unsigned)word(numbers, 2),
            (unsigned)word(numbers, 4));

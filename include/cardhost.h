@@ -1,6 +1,6 @@
 /* cardhost.h: the grading engine for logic cards, called from C.
  *
- * Link with libcardhost.a; nothing else is needed. The eight functions keep no state between calls
+ * Link with libcardhost.a; nothing else is needed. The seven functions keep no state between calls
  * and allocate nothing.
  *
  * WORDS. A card, its vectors and every answer are 32-bit words, each as four bytes, highest byte
@@ -21,14 +21,14 @@
  * and B's follow them. All else stays as it was.
  *
  * THE ANSWER of every call is one 64-bit number. Below 4294967296 the call is done, and the number is
- *   - of card_first_marking and card_tally, the marked count: how many of the F faults are caught;
+ *   - of card_grade, the marked count: how many of the F faults are caught;
  *   - of card_change_list, the length of the list;
  *   - of card_join, the number of words of the joined card;
  *   - of the other calls, 0.
  * Else the call is refused, and the number is refusal * 4294967296 + position (CARD_REFUSAL and
  * CARD_POSITION take it apart). The first broken rule is told, in this order: 1; then word by word 2,
- * 4, 5 and then 3, 6 or 7, with 8 after a graph's last word; 9; 10; 11; 12. card_join tells those of A,
- * 1 to 9, then those of B, then 13, 14, 12.
+ * 4, 5 and then 3, 6 or 7, with 8 after a graph's last word; 9; 10; 11; 12, of the marks before the
+ * tallies. card_join tells those of A, 1 to 9, then those of B, then 13, 14, 12.
  *
  *   no.  when                                                          position
  *    1   card over 9,216 whole words                                   0
@@ -43,26 +43,28 @@
  *    9   no observable graph                                           the word count
  *   10   vector words: number, kind or bits wrong                      0, or the vector word
  *   11   graph or fault number too high                                0
- *   12   buffer too short                                              0
+ *   12   buffer too short                                              0; of card_grade's tallies 1
  *   13   wire words: another number of them than B has inputs, or one  0, or the wire word
  *        is neither FFFFFFFF nor the number of a graph of A
  *   14   joined card over 1,024 graphs or over 4,096 nodes             0
  *
  * Positions count words from 0: in the card, or for refusal 10 in the vector words and for 13 in the
- * wire words. Those of B, 0 included, count on after A's words: where A has 9 words, B's word 5 is at
- * 14, and 1 of B is at 9. The number of wire words is looked at before any of them.
+ * wire words; 12's is the buffer's number. Those of B, 0 included, count on after A's words: where A has
+ * 9 words, B's word 5 is at 14, and 1 of B is at 9. The number of wire words is looked at before any of
+ * them.
  *
  * LEFTOVERS, where a length is no multiple of 4. One to three bytes at a card's end are refusal 4 at
  * the number of its whole words, after the last graph's 8 and just before 9. In vectors they are a
  * wrong number of words, refusal 10 at 0, and in wire words likewise 13 at 0. In a buffer they are
  * unused.
  *
- * BUFFERS. A refused call alters no byte. A call that is done writes just the words it names, from
- * the buffer's front; every byte beyond them keeps its content. Cards, vectors and wires are only read.
+ * BUFFERS. A refused call alters no byte of any buffer. A call that is done writes just the words it
+ * names, from a buffer's front; every byte beyond them keeps its content. Cards, vectors and wires are
+ * only read.
  *
  * TRUSTED, and not looked at: each pointer is good for its length (and not NULL, though nothing is
- * read or written at length 0), and the lent buffer overlaps no other lent part. A host that breaks this
- * gets no promise.
+ * read or written at length 0), and a lent buffer overlaps no other lent part, also not the other buffer.
+ * A host that breaks this gets no promise.
  *
  * STACK. A call needs at most CARD_STACK bytes of stack (tests/stack.c measures it on the largest cards).
  */
@@ -106,16 +108,13 @@ uint64_t card_change_list(const uint8_t *card, size_t card_len, const uint8_t *v
 uint64_t card_critical_nodes(const uint8_t *card, size_t card_len, const uint8_t *vector, size_t vector_len,
                              uint8_t *nodes, size_t nodes_len);
 
-/* Grades a list. Writes F words: for each fault C0000000 where no vector catches it, else E0000000
- * plus the number of the first that does. Answers the marked count. Refusal 12 with under F whole
- * words of buffer. */
-uint64_t card_first_marking(const uint8_t *card, size_t card_len, const uint8_t *vectors, size_t vectors_len,
-                            uint8_t *marks, size_t marks_len);
-
-/* Grades a list. Writes F words: for each fault the number of vectors that catch it, a repeated
- * vector counted each time. Answers the marked count. Refusal 12 with under F whole words of buffer. */
-uint64_t card_tally(const uint8_t *card, size_t card_len, const uint8_t *vectors, size_t vectors_len,
-                    uint8_t *tallies, size_t tallies_len);
+/* Grades a list. Writes F words of marks: for each fault C0000000 where no vector catches it, else
+ * E0000000 plus the number of the first that does. And F words of tallies: for each fault the number of
+ * vectors that catch it, a repeated vector counted each time; it is 0 exactly where the mark is C0000000.
+ * Answers the marked count. Refusal 12 at 0 with under F whole words of marks, else at 1 with under F
+ * whole words of tallies. */
+uint64_t card_grade(const uint8_t *card, size_t card_len, const uint8_t *vectors, size_t vectors_len,
+                    uint8_t *marks, size_t marks_len, uint8_t *tallies, size_t tallies_len);
 
 /* Joins two cards by their wires. Writes the joined card's words, at most 9,216, and answers how many they
  * are. They are a card that every other call takes. Refusals 1 to 9 of A and of B; 13; 14; 12 with fewer

@@ -152,21 +152,20 @@ static uint32_t word_at(const uint8_t *b)
     return (uint32_t)b[0] << 24 | (uint32_t)b[1] << 16 | (uint32_t)b[2] << 8 | b[3];
 }
 
-/* The same of the engine: faults with a tally of 1, or the words of a change list. */
+/* The same of the engine: faults with a tally, or the words of a change list. */
 static void engine_says(const uint32_t *words, unsigned count, uint32_t vector, enum call call, char *text)
 {
-    uint8_t card[4 * WORDS], bits[4], buffer[4 * 100];
+    uint8_t card[4 * WORDS], bits[4], buffer[4 * 100] = { 0 }, tallies[4 * 100] = { 0 };
     struct asked a = { .call = call, .card = card, .card_len = 4 * (size_t)count, .vectors = bits, .vectors_len = 4 };
     unsigned n;
     for (unsigned i = 0; i < 4 * count; i++)
         card[i] = (uint8_t)(words[i / 4] >> (24 - 8 * (i % 4)));
     for (unsigned i = 0; i < 4; i++)
         bits[i] = (uint8_t)(vector >> (24 - 8 * i));
-    memset(buffer, 0, sizeof buffer);
-    n = (unsigned)ask_engine(&a, buffer, sizeof buffer);
+    n = (unsigned)ask_engine(&a, buffer, sizeof buffer, tallies, sizeof tallies);
     *text = 0;
     for (unsigned i = 0; i < (call == CHANGE ? n : 100); i++)
-        if (call == CHANGE || word_at(buffer + 4 * (size_t)i))
+        if (call == CHANGE || word_at(tallies + 4 * (size_t)i))
             sprintf(text + strlen(text), " %u", call == CHANGE ? (unsigned)word_at(buffer + 4 * (size_t)i) : i);
 }
 
@@ -176,18 +175,18 @@ static const struct astray {
     uint32_t words[WORDS];
     unsigned count;
     uint32_t vector;
-    enum call call; /* TALLY: the faults caught; CHANGE: the change list of graph 0 */
+    enum call call; /* GRADE: the faults caught; CHANGE: the change list of graph 0 */
     const char *right, *wrong;
 } ways[] = {
     { 1, "the criticality of the only graph left",
       { 0, 0x20000001, 0x60000000, 0x80000001, 0x40000002, 0x60000001, 0x80000003, 0x60000000, 0x80000001 },
-      9, 0xA0000000, TALLY, " 7 11", " 11" },
+      9, 0xA0000000, GRADE, " 7 11", " 11" },
     { 2, "a graph by the other good exits, which have changed too",
       { 0, 0x20000001, 0x60000000, 0x80000001, 0x40000002, 0x60000001, 0x80000003, 0x60000000, 0x80004000 },
-      9, 0xA0000000, TALLY, " 1 3 9 11", " 1 3 7 9 11" },
+      9, 0xA0000000, GRADE, " 1 3 9 11", " 1 3 7 9 11" },
     { 3, "both faults of a critical node",
       { 0, 0x20000001, 0x60000000, 0x80000001, 0x40000002, 0x60000001, 0x80000003, 0x60000000, 0x80000001 },
-      9, 0xA0000001, TALLY, " 0 2 4 6 8 10", " 0 1 2 3 4 5 6 8 10" },
+      9, 0xA0000001, GRADE, " 0 2 4 6 8 10", " 0 1 2 3 4 5 6 8 10" },
     { 4, "an observable graph's readers left unchanged",
       { 0, 0x40000001, 0x60000000, 0x80000001, 0x20000001, 0x60000001, 0x80000001 },
       7, 0xA0000000, CHANGE, " 0 1 2", " 0 1" },

@@ -377,16 +377,12 @@ static unsigned grade(const struct card *c, const uint8_t *vectors, size_t len)
     return marked;
 }
 
-static void put_marks(uint8_t *marks, unsigned faults)
+static void put_grade(uint8_t *marks, uint8_t *tallies, unsigned faults)
 {
-    for (unsigned f = 0; f < faults; f++)
+    for (unsigned f = 0; f < faults; f++) {
         put_word(marks, f, tally[f] ? 0xE0000000u + first_vector[f] : 0xC0000000u);
-}
-
-static void put_tallies(uint8_t *tallies, unsigned faults)
-{
-    for (unsigned f = 0; f < faults; f++)
         put_word(tallies, f, tally[f]);
+    }
 }
 
 /* ---- the calls ---- */
@@ -486,8 +482,8 @@ uint64_t brute_critical_nodes(const uint8_t *card, size_t card_len, const uint8_
     return 0;
 }
 
-uint64_t brute_first_marking(const uint8_t *card, size_t card_len, const uint8_t *vectors, size_t vectors_len,
-                             uint8_t *marks, size_t marks_len)
+uint64_t brute_grade(const uint8_t *card, size_t card_len, const uint8_t *vectors, size_t vectors_len,
+                     uint8_t *marks, size_t marks_len, uint8_t *tallies, size_t tallies_len)
 {
     unsigned marked;
     uint64_t r = take(card, card_len, vectors, vectors_len, 0);
@@ -495,22 +491,10 @@ uint64_t brute_first_marking(const uint8_t *card, size_t card_len, const uint8_t
         return r;
     if (marks_len / 4 < the_card.faults)
         return refuse(12, 0);
-    marked = grade(&the_card, vectors, vectors_len);
-    put_marks(marks, the_card.faults);
-    return marked;
-}
-
-uint64_t brute_tally(const uint8_t *card, size_t card_len, const uint8_t *vectors, size_t vectors_len,
-                     uint8_t *tallies, size_t tallies_len)
-{
-    unsigned marked;
-    uint64_t r = take(card, card_len, vectors, vectors_len, 0);
-    if (r)
-        return r;
     if (tallies_len / 4 < the_card.faults)
-        return refuse(12, 0);
+        return refuse(12, 1);
     marked = grade(&the_card, vectors, vectors_len);
-    put_tallies(tallies, the_card.faults);
+    put_grade(marks, tallies, the_card.faults);
     return marked;
 }
 
@@ -670,8 +654,7 @@ uint64_t brute_together_grade(const uint8_t *vectors, size_t vectors_len, uint8_
         }
         marked += take_in(caught, faults, v);
     }
-    put_marks(marks, faults);
-    put_tallies(tallies, faults);
+    put_grade(marks, tallies, faults);
     return marked;
 }
 

@@ -1,4 +1,4 @@
-/* brute.h: the eight calls and the program's text again, by brute force.
+/* brute.h: the seven calls and the program's text again, by brute force.
  *
  * Written from documents 01 and 02 alone. It shares nothing with the engine and knows no marking rules:
  * what a fault does is found by putting it in and working out the whole card again.
@@ -19,10 +19,8 @@ uint64_t brute_change_list(const uint8_t *card, size_t card_len, const uint8_t *
                            uint32_t graph, uint8_t *list, size_t list_len);
 uint64_t brute_critical_nodes(const uint8_t *card, size_t card_len, const uint8_t *vector, size_t vector_len,
                               uint8_t *nodes, size_t nodes_len);
-uint64_t brute_first_marking(const uint8_t *card, size_t card_len, const uint8_t *vectors, size_t vectors_len,
-                             uint8_t *marks, size_t marks_len);
-uint64_t brute_tally(const uint8_t *card, size_t card_len, const uint8_t *vectors, size_t vectors_len,
-                     uint8_t *tallies, size_t tallies_len);
+uint64_t brute_grade(const uint8_t *card, size_t card_len, const uint8_t *vectors, size_t vectors_len,
+                     uint8_t *marks, size_t marks_len, uint8_t *tallies, size_t tallies_len);
 uint64_t brute_join(const uint8_t *a, size_t a_len, const uint8_t *b, size_t b_len, const uint8_t *wires, size_t wires_len,
                     uint8_t *card, size_t card_len);
 

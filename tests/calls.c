@@ -4,10 +4,10 @@
 #include "../include/cardhost.h"
 #include "brute.h"
 
-const char *const call_names[CALLS] = { "card_check",          "card_good_values",   "card_fault_values", "card_change_list",
-                                        "card_critical_nodes", "card_first_marking", "card_tally",        "card_join" };
+const char *const call_names[CALLS] = { "card_check",          "card_good_values", "card_fault_values", "card_change_list",
+                                        "card_critical_nodes", "card_grade",       "card_join" };
 
-uint64_t ask_engine(const struct asked *a, uint8_t *buffer, size_t len)
+uint64_t ask_engine(const struct asked *a, uint8_t *buffer, size_t len, uint8_t *tallies, size_t tallies_len)
 {
     switch (a->call) {
     case CHECK: return card_check(a->card, a->card_len, buffer, len);
@@ -15,13 +15,12 @@ uint64_t ask_engine(const struct asked *a, uint8_t *buffer, size_t len)
     case FAULT: return card_fault_values(a->card, a->card_len, a->vectors, a->vectors_len, a->number, buffer, len);
     case CHANGE: return card_change_list(a->card, a->card_len, a->vectors, a->vectors_len, a->number, buffer, len);
     case CRITICAL: return card_critical_nodes(a->card, a->card_len, a->vectors, a->vectors_len, buffer, len);
-    case FIRST: return card_first_marking(a->card, a->card_len, a->vectors, a->vectors_len, buffer, len);
-    case TALLY: return card_tally(a->card, a->card_len, a->vectors, a->vectors_len, buffer, len);
+    case GRADE: return card_grade(a->card, a->card_len, a->vectors, a->vectors_len, buffer, len, tallies, tallies_len);
     default: return card_join(a->card, a->card_len, a->second, a->second_len, a->vectors, a->vectors_len, buffer, len);
     }
 }
 
-uint64_t ask_brute(const struct asked *a, uint8_t *buffer, size_t len)
+uint64_t ask_brute(const struct asked *a, uint8_t *buffer, size_t len, uint8_t *tallies, size_t tallies_len)
 {
     switch (a->call) {
     case CHECK: return brute_check(a->card, a->card_len, buffer, len);
@@ -29,8 +28,7 @@ uint64_t ask_brute(const struct asked *a, uint8_t *buffer, size_t len)
     case FAULT: return brute_fault_values(a->card, a->card_len, a->vectors, a->vectors_len, a->number, buffer, len);
     case CHANGE: return brute_change_list(a->card, a->card_len, a->vectors, a->vectors_len, a->number, buffer, len);
     case CRITICAL: return brute_critical_nodes(a->card, a->card_len, a->vectors, a->vectors_len, buffer, len);
-    case FIRST: return brute_first_marking(a->card, a->card_len, a->vectors, a->vectors_len, buffer, len);
-    case TALLY: return brute_tally(a->card, a->card_len, a->vectors, a->vectors_len, buffer, len);
+    case GRADE: return brute_grade(a->card, a->card_len, a->vectors, a->vectors_len, buffer, len, tallies, tallies_len);
     default: return brute_join(a->card, a->card_len, a->second, a->second_len, a->vectors, a->vectors_len, buffer, len);
     }
 }

@@ -1,11 +1,11 @@
-/* calls.h: the eight calls under one name, of the engine and of brute force. */
+/* calls.h: the seven calls under one name, of the engine and of brute force. */
 #ifndef CALLS_H
 #define CALLS_H
 
 #include <stddef.h>
 #include <stdint.h>
 
-enum call { CHECK, GOOD, FAULT, CHANGE, CRITICAL, FIRST, TALLY, JOIN, CALLS };
+enum call { CHECK, GOOD, FAULT, CHANGE, CRITICAL, GRADE, JOIN, CALLS };
 
 extern const char *const call_names[CALLS];
 
@@ -22,7 +22,8 @@ struct asked {
     size_t second_len;
 };
 
-uint64_t ask_engine(const struct asked *a, uint8_t *buffer, size_t len);
-uint64_t ask_brute(const struct asked *a, uint8_t *buffer, size_t len);
+/* GRADE writes its marks into the buffer. The tallies are its second buffer, and no other call gets them. */
+uint64_t ask_engine(const struct asked *a, uint8_t *buffer, size_t len, uint8_t *tallies, size_t tallies_len);
+uint64_t ask_brute(const struct asked *a, uint8_t *buffer, size_t len, uint8_t *tallies, size_t tallies_len);
 
 #endif

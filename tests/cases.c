@@ -10,8 +10,8 @@
  *               last with 0 and 1                      part3            the same, the last going on too
  *   obs3        an observable graph of such a chain    link3            the same, reading the graph below
  *
- * Of a call that is done, the text has the answer, a colon and the words written; the test sees to it
- * that the rest of the buffer is as it was. Of a refused one all of the buffer is.
+ * Of a call that is done, the text has the answer, a colon and the words written, of card_grade the marks, a |
+ * and the tallies; the test sees to it that the rest of both buffers is as it was. Of a refused call all is.
  */
 #include "astray.h"
 #include "calls.h"
@@ -248,20 +248,6 @@ static const struct call_case {
     { CHANGE, CARD_S, "A0000001", 2, W(3), "1: 2" },
     { CRITICAL, CARD_S, "A0000000", 0, W(3), "0: 0 0 0" },
     { CRITICAL, CARD_S, "A0000001", 0, W(4), "0: 1 1 1" },
-    { FIRST, CARD_S, "", 0, W(12), "0: C0000000*12" },
-    { TALLY, CARD_S, "", 0, W(12), "0: 0*12" },
-    { FIRST, CARD_S, "A0000000", 0, W(12), "2: C0000000*7 E0000000 C0000000*3 E0000000" },
-    { TALLY, CARD_S, "A0000000", 0, W(12), "2: 0*7 1 0 0 0 1" },
-    { FIRST, CARD_S, "A0000001", 0, W(12),
-      "6: E0000000 C0000000 E0000000 C0000000 E0000000 C0000000 E0000000 C0000000 E0000000 C0000000 E0000000 C0000000" },
-    { TALLY, CARD_S, "A0000001", 0, W(12), "6: 1 0 1 0 1 0 1 0 1 0 1 0" },
-    { FIRST, CARD_S, "A0000000 A0000001", 0, W(14),
-      "8: E0000001 C0000000 E0000001 C0000000 E0000001 C0000000 E0000001 E0000000 E0000001 C0000000 E0000001 E0000000" },
-    { TALLY, CARD_S, "A0000000 A0000001", 0, W(14), "8: 1 0 1 0 1 0 1 1 1 0 1 1" },
-    /* a repeated vector counts each time; the first vector stays the first */
-    { TALLY, CARD_S, "A0000000 A0000001 A0000000 A0000000 A0000001", 0, W(12), "8: 2 0 2 0 2 0 2 3 2 0 2 3" },
-    { FIRST, CARD_S, "A0000001 A0000001 A0000000", 0, W(12),
-      "8: E0000000 C0000000 E0000000 C0000000 E0000000 C0000000 E0000000 E0000002 E0000000 C0000000 E0000000 E0000002" },
     /* document 01: Akers's f under A0000004 */
     { GOOD, CARD_F, "A0000004", 0, W(4), "0: 0 0 1 1" },
     { CHANGE, CARD_F, "A0000004", 0, W(4), "1: 0" },
@@ -269,14 +255,9 @@ static const struct call_case {
     { CHANGE, CARD_F, "A0000004", 2, W(4), "2: 2 3" },
     { CHANGE, CARD_F, "A0000004", 3, W(4), "1: 3" },
     { CRITICAL, CARD_F, "A0000004", 0, W(3), "0: 0 1 1" },
-    { FIRST, CARD_F, "A0000004", 0, W(14),
-      "5: C0000000*3 E0000000*2 C0000000*4 E0000000*2 C0000000 E0000000 C0000000" },
-    { TALLY, CARD_F, "A0000004", 0, W(14), "5: 0 0 0 1 1 0 0 0 0 1 1 0 1 0" },
     /* an observable graph that is read, a graph that nobody reads, a node with equal exits */
     { CHANGE, "0 40000001 60000000 80000001 20000001 60000001 80000001", "A0000000", 0, W(3), "3: 0 1 2" },
     { CHANGE, "0 40000001 60000000 80000001 20000001 60000001 80000001", "A0000000", 2, W(3), "1: 2" },
-    { TALLY, "0 40000001 60000000 80000001 20000001 60000001 80000001", "A0000000", 0, W(10), "3: 0 1 0 0 0 1 0 1 0 0" },
-    { TALLY, "0 40000002 60000000 8000C003 60000000 80000001", "A0000001", 0, W(8), "3: 0 0 1 0 1 0 1 0" },
     { CRITICAL, "0 40000002 60000000 8000C003 60000000 80000001", "A0000001", 0, W(2), "0: 0 1" },
     /* numbers too high */
     { CHANGE, CARD_S, "A0000000", 3, W(3), "refused 11 0" },
@@ -287,10 +268,6 @@ static const struct call_case {
     { CHANGE, CARD_S, "A0000000", 1, W(2) + 3, "refused 12 0" },
     { CHANGE, CARD_S, "A0000000", 1, 0, "refused 12 0" },
     { CRITICAL, CARD_S, "A0000001", 0, W(2) + 3, "refused 12 0" },
-    { FIRST, CARD_S, "A0000001", 0, W(11), "refused 12 0" },
-    { FIRST, CARD_S, "", 0, W(11) + 3, "refused 12 0" },
-    { TALLY, CARD_S, "A0000001", 0, W(11) + 1, "refused 12 0" },
-    { TALLY, CARD_S, "", 0, 0, "refused 12 0" },
     { CHECK, CARD_S, "", 0, W(4) + 3, "refused 12 0" },
     { CHECK, CARD_S, "", 0, 0, "refused 12 0" },
     /* leftover bytes of a buffer are unused */
@@ -300,26 +277,13 @@ static const struct call_case {
     { FAULT, CARD_S, "A0000001", 0, W(3) + 2, "0: 1 0 0" },
     { CHANGE, CARD_S, "A0000001", 1, W(3) + 3, "2: 1 2" },
     { CRITICAL, CARD_S, "A0000001", 0, W(3) + 2, "0: 1 1 1" },
-    { FIRST, CARD_S, "", 0, W(12) + 3, "0: C0000000*12" },
-    { TALLY, CARD_S, "A0000001", 0, W(12) + 2, "6: 1 0 1 0 1 0 1 0 1 0 1 0" },
     /* leftover bytes of a card: 4 at the word count, before 10 and 12 */
     { CHECK, CARD_S " +1", "", 0, 0, "refused 4 9" },
     { GOOD, CARD_S " +2", "60000000", 0, 0, "refused 4 9" },
     { CHANGE, CARD_S " +1", "A0000001", 9, 0, "refused 4 9" },
-    { TALLY, CARD_S " +3", "A0000001 +1", 0, 0, "refused 4 9" },
-    { FIRST, CUT_S " +1", "A0000001", 0, W(12), "refused 4 4" },
     /* leftover bytes of vectors: a wrong number of words, before any word's kind */
     { GOOD, CARD_S, "A0000001 +1 | A0000001 +3 | +2 | 60000000 +1", 0, W(3), "refused 10 0" },
-    { FIRST, CARD_S, "A0000001 +1 | +2 | +3 | A0000000 60000000 +1", 0, W(12), "refused 10 0" },
-    { TALLY, CARD_17, "A0000000 60000000 +1 | A0000000 +3", 0, W(38), "refused 10 0" },
     { CRITICAL, CARD_17, "A0000000 60000000 +1 | A0000000 +3", 0, W(1), "refused 10 0" },
-    /* a list: its number of words, then each word */
-    { FIRST, CARD_17, "A0000000 | A0000000 A0000000 A0000000 | A0000000 60000000 A0000000", 0, W(38), "refused 10 0" },
-    { TALLY, CARD_17, "A0000000 A0000000 A0000000 A0000002 | A0000000*3 60000000 | A0000000*3 A0010000", 0, W(38), "refused 10 3" },
-    { TALLY, CARD_17, "A0000000*2 60000000 A0000002 | A0000000*2 A0010000 60000000", 0, W(38), "refused 10 2" },
-    { TALLY, CARD_17, "A0000000*2 A0000001 A0000001", 0, W(38), "3: 0 2 0*31 2 0 0 0 2" },
-    { FIRST, CARD_S, "A0000000 60000000", 0, W(12), "refused 10 1" },
-    { FIRST, CARD_S, "A0000001 A0000002", 0, W(12), "refused 10 1" },
     /* a call on one vector wants just one */
     { CRITICAL, CARD_S, " | A0000000 A0000001", 0, W(3), "refused 10 0" },
     { CHANGE, CARD_S, " | A0000000 A0000001", 0, W(3), "refused 10 0" },
@@ -327,26 +291,12 @@ static const struct call_case {
     { GOOD, CARD_17, "A0000000 60000000 A0000000", 0, W(18), "refused 10 0" },
     /* orders: 9, 10, 11, 12 */
     { CHECK, CUT_S, "", 0, 0, "refused 9 4" },
-    { TALLY, CUT_S, "60000000", 0, 0, "refused 9 4" },
-    { FIRST, CARD_S, "60000000", 0, W(11), "refused 10 0" },
-    { TALLY, CARD_S, "60000000", 0, W(11), "refused 10 0" },
     { CRITICAL, CARD_S, "60000000", 0, 0, "refused 10 0" },
-    { FIRST, CARD_S, "A0000001*65536", 0, 0, "refused 10 0" },
     { FAULT, CARD_S, "A0000000", 12, W(3), "refused 11 0" },
-    /* 65,535 vectors, and one more */
-    { TALLY, CARD_S, "A0000001*65535", 0, W(12), "6: 65535 0 65535 0 65535 0 65535 0 65535 0 65535 0" },
-    { FIRST, CARD_S, "A0000000*65534 A0000001", 0, W(12),
-      "8: E000FFFE C0000000 E000FFFE C0000000 E000FFFE C0000000 E000FFFE E0000000 E000FFFE C0000000 E000FFFE E0000000" },
-    { TALLY, CARD_S, "A0000001*65536 | 60000000*65536 | A0000001 60000000*65535", 0, W(12), "refused 10 0" },
-    { FIRST, CARD_S, "A0000001*65536 | A0000001*65536 +1", 0, W(12), "refused 10 0" },
-    { TALLY, CARD_S, "A0000001*65534 60000000", 0, W(12), "refused 10 65534" },
-    { TALLY, CARD_17, "A0000000*131070", 0, W(38), "3: 0 65535 0*31 65535 0 0 0 65535" },
-    { TALLY, CARD_17, "A0000000*131072 | A0000000*131071 | A0000000 60000000 A0000000*131070", 0, W(38), "refused 10 0" },
     /* a card at all three limits: 512 inputs, and 512 graphs of 8 nodes that read input 0 */
     { GOOD, "0*512 obs8*512", "A0000001 A0000000*31", 0, W(1024), "0: 1 0*511 1*512" },
     { CHANGE, "0*512 obs8*512", "A0000000*32", 1, W(1024), "1: 1" },
     { CRITICAL, "0*512 obs8*512", "A0000001 A0000000*31", 0, W(4096), "0: 1*4096" },
-    { FIRST, "0*512 obs8*512", "A0000000*32", 0, W(10239) + 3, "refused 12 0" },
     /* S, vectors */
     { GOOD, CARD_S, "", 0, W(3), "refused 10 0" },
     { GOOD, CARD_S, "A0000000", 0, W(3), "0: 0 0 0" },
@@ -485,12 +435,106 @@ static const struct call_case {
     { GOOD, ALL_INPUTS, "A000FFFF*64", 0, W(1030), "refused 10 63" },
     { GOOD, ALL_INPUTS, "A000FFFF*63 A0007FFF", 0, W(1030), "0: 1*1024" },
     { GOOD, ALL_INPUTS, "A000FFFF*63", 0, W(1030), "refused 10 0" },
-    /* S on S's observable graph: with input 1 all is 1 and every stuck 0 is seen; with 0 graphs 0, 2 and 4 held at 1 are */
+    /* S on S's observable graph */
     { GOOD, S_ON_2, "A0000001", 0, W(5), "0: 1*5" },
-    { TALLY, S_ON_2, "A0000001", 0, W(22), "11: 1 0 1 0 1 0 1 0 1 0 1 0 1 0 1 0 1 0 1 0 1 0" },
-    { TALLY, S_ON_2, "A0000000", 0, W(22), "3: 0*12 0 1 0 0 0 1 0 0 0 1" },
+};
+
+/* ---- gradings: card, vectors (once, or several with | between), the bytes of marks and of tallies, answer ---- */
+
+/* S's marks under A0000001, and under A0000000 with A0000001 after it. */
+#define S_MARKS_1 "E0000000 C0000000 E0000000 C0000000 E0000000 C0000000 E0000000 C0000000 E0000000 C0000000 E0000000 C0000000"
+#define S_MARKS_01 "E0000001 C0000000 E0000001 C0000000 E0000001 C0000000 E0000001 E0000000 E0000001 C0000000 E0000001 E0000000"
+
+static const struct grade_case {
+    const char *card, *vectors;
+    size_t marks_room, tallies_room;
+    const char *want;
+} grade_cases[] = {
+    /* document 01: S under both vectors */
+    { CARD_S, "", W(12), W(12), "0: C0000000*12 | 0*12" },
+    { CARD_S, "A0000000", W(12), W(12), "2: C0000000*7 E0000000 C0000000*3 E0000000 | 0*7 1 0*3 1" },
+    { CARD_S, "A0000001", W(12), W(12), "6: " S_MARKS_1 " | 1 0 1 0 1 0 1 0 1 0 1 0" },
+    { CARD_S, "A0000000 A0000001", W(14), W(14), "8: " S_MARKS_01 " | 1 0 1 0 1 0 1 1 1 0 1 1" },
+    /* a repeated vector counts each time; the first vector stays the first */
+    { CARD_S, "A0000000 A0000001 A0000000", W(12), W(12), "8: " S_MARKS_01 " | 1 0 1 0 1 0 1 2 1 0 1 2" },
+    { CARD_S, "A0000000 A0000001 A0000000 A0000000 A0000001", W(12), W(12), "8: " S_MARKS_01 " | 2 0 2 0 2 0 2 3 2 0 2 3" },
+    { CARD_S, "A0000001 A0000001 A0000000", W(12), W(12),
+      "8: E0000000 C0000000 E0000000 C0000000 E0000000 C0000000 E0000000 E0000002 E0000000 C0000000 E0000000 E0000002 | "
+      "2 0 2 0 2 0 2 1 2 0 2 1" },
+    /* document 01: Akers's f under A0000004 */
+    { CARD_F, "A0000004", W(14), W(14),
+      "5: C0000000*3 E0000000*2 C0000000*4 E0000000*2 C0000000 E0000000 C0000000 | 0 0 0 1 1 0 0 0 0 1 1 0 1 0" },
+    /* an observable graph that is read, a graph that nobody reads, a node with equal exits */
+    { "0 40000001 60000000 80000001 20000001 60000001 80000001", "A0000000", W(10), W(10),
+      "3: C0000000 E0000000 C0000000*3 E0000000 C0000000 E0000000 C0000000*2 | 0 1 0 0 0 1 0 1 0 0" },
+    { "0 40000002 60000000 8000C003 60000000 80000001", "A0000001", W(8), W(8),
+      "3: C0000000*2 E0000000 C0000000 E0000000 C0000000 E0000000 C0000000 | 0 0 1 0 1 0 1 0" },
+    /* marks too short: at 0, whatever the tallies' room is */
+    { CARD_S, "A0000001", W(11), W(12), "refused 12 0" },
+    { CARD_S, "A0000001", W(11), W(40), "refused 12 0" },
+    { CARD_S, "A0000001", W(11), W(11), "refused 12 0" },
+    { CARD_S, "A0000001", 0, W(12), "refused 12 0" },
+    { CARD_S, "A0000001", 0, 0, "refused 12 0" },
+    { CARD_S, "", W(11) + 3, W(12), "refused 12 0" },
+    { CARD_S, "", W(11) + 3, W(11) + 3, "refused 12 0" },
+    { "0*512 obs8*512", "A0000000*32", W(10239) + 3, W(10240), "refused 12 0" },
+    /* the tallies alone too short: at 1 */
+    { CARD_S, "A0000001", W(12), W(11), "refused 12 1" },
+    { CARD_S, "A0000001", W(40), W(11), "refused 12 1" },
+    { CARD_S, "A0000001", W(12), W(11) + 1, "refused 12 1" },
+    { CARD_S, "A0000001", W(12) + 1, W(11) + 3, "refused 12 1" },
+    { CARD_S, "", W(12), W(11) + 3, "refused 12 1" },
+    { CARD_S, "", W(12), 0, "refused 12 1" },
+    { CARD_S, "A0000001", W(12) + 3, 0, "refused 12 1" },
+    { "0*512 obs8*512", "A0000000*32", W(10240), W(10239) + 3, "refused 12 1" },
+    /* leftover bytes of a buffer are unused, and so are words beyond the faults */
+    { CARD_S, "", W(12) + 3, W(12) + 1, "0: C0000000*12 | 0*12" },
+    { CARD_S, "A0000000", W(12), W(12) + 3, "2: C0000000*7 E0000000 C0000000*3 E0000000 | 0*7 1 0*3 1" },
+    { CARD_S, "A0000000", W(40), W(12), "2: C0000000*7 E0000000 C0000000*3 E0000000 | 0*7 1 0*3 1" },
+    { CARD_S, "A0000001", W(12) + 1, W(12) + 2, "6: " S_MARKS_1 " | 1 0 1 0 1 0 1 0 1 0 1 0" },
+    /* leftover bytes of a card: 4 at the word count, before 10 and 12 */
+    { CARD_S " +3", "A0000001 +1", 0, 0, "refused 4 9" },
+    { CARD_S " +3", "A0000001 +1", W(12), 0, "refused 4 9" },
+    { CUT_S " +1", "A0000001", W(12), W(12), "refused 4 4" },
+    /* leftover bytes of vectors: a wrong number of words, before any word's kind */
+    { CARD_S, "A0000001 +1 | +2 | +3 | A0000000 60000000 +1", W(12), W(12), "refused 10 0" },
+    { CARD_17, "A0000000 60000000 +1 | A0000000 +3", W(38), W(38), "refused 10 0" },
+    /* a list: its number of words, then each word */
+    { CARD_17, "A0000000 | A0000000 A0000000 A0000000 | A0000000 60000000 A0000000", W(38), W(38), "refused 10 0" },
+    { CARD_17, "A0000000 A0000000 A0000000 A0000002 | A0000000*3 60000000 | A0000000*3 A0010000", W(38), W(38), "refused 10 3" },
+    { CARD_17, "A0000000*2 60000000 A0000002 | A0000000*2 A0010000 60000000", W(38), W(38), "refused 10 2" },
+    { CARD_17, "A0000000*2 A0000001 A0000001", W(38), W(38),
+      "3: C0000000 E0000000 C0000000*31 E0000000 C0000000*3 E0000000 | 0 2 0*31 2 0 0 0 2" },
+    { CARD_S, "A0000000 60000000 | A0000001 A0000002", W(12), W(12), "refused 10 1" },
+    /* orders: 9, 10, 12 of the marks, 12 of the tallies */
+    { CUT_S, "60000000", 0, 0, "refused 9 4" },
+    { CUT_S, "60000000", W(12), 0, "refused 9 4" },
+    { CARD_S, "60000000", W(11), W(12), "refused 10 0" },
+    { CARD_S, "60000000", W(12), W(11), "refused 10 0" },
+    { CARD_S, "60000000 | A0000001*65536", 0, 0, "refused 10 0" },
+    { CARD_S, "A0000000 60000000", W(11), W(12), "refused 10 1" },
+    { CARD_S, "A0000000 A0000000 60000000", W(12), W(11), "refused 10 2" },
+    /* 65,535 vectors, and one more */
+    { CARD_S, "A0000001*65535", W(12), W(12),
+      "6: " S_MARKS_1 " | 65535 0 65535 0 65535 0 65535 0 65535 0 65535 0" },
+    { CARD_S, "A0000000*65534 A0000001", W(12), W(12),
+      "8: E000FFFE C0000000 E000FFFE C0000000 E000FFFE C0000000 E000FFFE E0000000 E000FFFE C0000000 E000FFFE E0000000 | "
+      "1 0 1 0 1 0 1 65534 1 0 1 65534" },
+    { CARD_S, "A0000001*65536 | 60000000*65536 | A0000001 60000000*65535 | A0000001*65536 +1", W(12), W(12), "refused 10 0" },
+    { CARD_S, "A0000001*65534 60000000", W(12), W(12), "refused 10 65534" },
+    { CARD_17, "A0000000*131070", W(38), W(38),
+      "3: C0000000 E0000000 C0000000*31 E0000000 C0000000*3 E0000000 | 0 65535 0*31 65535 0 0 0 65535" },
+    { CARD_17, "A0000000*131072 | A0000000*131071 | A0000000 60000000 A0000000*131070", W(38), W(38), "refused 10 0" },
+    /* S on S's observable graph: with input 1 all is 1 and every stuck 0 is seen; with 0 graphs 0, 2 and 4 held at 1 are */
+    { S_ON_2, "A0000001", W(22), W(22),
+      "11: " S_MARKS_1 " E0000000 C0000000 E0000000 C0000000 E0000000 C0000000 E0000000 C0000000 E0000000 C0000000 | "
+      "1 0 1 0 1 0 1 0 1 0 1 0 1 0 1 0 1 0 1 0 1 0" },
+    { S_ON_2, "A0000000", W(22), W(22),
+      "3: C0000000*13 E0000000 C0000000*3 E0000000 C0000000*3 E0000000 | 0*12 0 1 0 0 0 1 0 0 0 1" },
     /* S beside S: what each vector catches on its own S */
-    { TALLY, S_FREE, "A0000001", 0, W(24), "8: 1 0 1 0 1 0 0*6 1 0 0 1 1 0 1 0 0 0 0 1" },
+    { S_FREE, "A0000001", W(24), W(24),
+      "8: E0000000 C0000000 E0000000 C0000000 E0000000 C0000000*7 E0000000 C0000000*2 E0000000 E0000000 C0000000 E0000000 "
+      "C0000000*4 E0000000 | 1 0 1 0 1 0 0*6 1 0 0 1 1 0 1 0 0 0 0 1" },
 };
 
 /* ---- two cards wired together: name, card A, card B, its wires (once, or several with | between), the
@@ -710,7 +754,9 @@ static struct text_words card_words, vector_words, want_words;
 static unsigned cases, differ;
 
 enum { GUARD = 16, BUFFER = W(10400), CONTENT = 0x6B };
-static uint8_t buffer[BUFFER + 2 * GUARD], want[BUFFER + 2 * GUARD];
+static struct lent {
+    uint8_t now[BUFFER + 2 * GUARD], want[BUFFER + 2 * GUARD];
+} buffer, tallies;
 
 static uint64_t answer_of(const char *text)
 {
@@ -720,19 +766,38 @@ static uint64_t answer_of(const char *text)
     return strtoull(text, NULL, 10);
 }
 
-/* The expected buffer: as it was, with the expected words at its front. */
-static void expect_buffer(const char *text)
+/* A buffer is expected as it was, with a text's words at its front; where the text stopped. */
+static const char *expect(struct lent *l, const char *text)
 {
     size_t len;
     uint8_t *bytes;
-    memset(want, CONTENT, sizeof want);
-    memset(buffer, CONTENT, sizeof buffer);
-    if (!isdigit((unsigned char)text[0]))
-        return;
-    parse(strchr(text, ':') + 1, &want_words);
+    memset(l, CONTENT, sizeof *l);
+    text = parse(text, &want_words);
     bytes = bytes_of(&want_words, &len);
-    memcpy(want + GUARD, bytes, len);
+    memcpy(l->want + GUARD, bytes, len);
     free(bytes);
+    return text;
+}
+
+static void expect_buffers(const char *text)
+{
+    text = expect(&buffer, isdigit((unsigned char)text[0]) ? strchr(text, ':') + 1 : "");
+    expect(&tallies, *text ? text + 1 : "");
+}
+
+static int is_right(const struct lent *l)
+{
+    return !memcmp(l->now, l->want, sizeof l->now);
+}
+
+static void tell_buffer(const char *name, const struct lent *l)
+{
+    size_t i = 0;
+    if (is_right(l))
+        return;
+    while (l->now[i] == l->want[i])
+        i++;
+    printf(", %s byte %ld is %02X, should be %02X", name, (long)i - GUARD, l->now[i], l->want[i]);
 }
 
 static void tell(const char *name, const struct asked *a, const char *text, uint64_t got)
@@ -740,11 +805,8 @@ static void tell(const char *name, const struct asked *a, const char *text, uint
     differ++;
     printf("DIFFERENCE: %s%s%s, number %u: expected %.100s, engine %llu %llu", name ? name : "", name ? ", " : "",
            call_names[a->call], (unsigned)a->number, text, (unsigned long long)(got >> 32), (unsigned long long)(got & 0xFFFFFFFFu));
-    for (size_t i = 0; i < sizeof buffer; i++)
-        if (buffer[i] != want[i]) {
-            printf(", buffer byte %ld is %02X, should be %02X", (long)i - GUARD, buffer[i], want[i]);
-            break;
-        }
+    tell_buffer("buffer", &buffer);
+    tell_buffer("tallies", &tallies);
     printf("\n");
 }
 
@@ -767,7 +829,7 @@ static int kept(uint8_t *copy, const uint8_t *was, size_t len)
 }
 
 /* Lends copies, so that their bytes can be compared afterwards. */
-static void one_call(const char *name, const struct asked *a, size_t room, const char *text)
+static void one_call(const char *name, const struct asked *a, size_t room, size_t tallies_room, const char *text)
 {
     uint8_t *card = copy_of(a->card, a->card_len), *second = copy_of(a->second, a->second_len);
     uint8_t *vectors = copy_of(a->vectors, a->vectors_len);
@@ -777,16 +839,17 @@ static void one_call(const char *name, const struct asked *a, size_t room, const
     lent.card = card;
     lent.second = second;
     lent.vectors = vectors;
-    expect_buffer(text);
+    expect_buffers(text);
     cases++;
-    got = ask_engine(&lent, buffer + GUARD, room);
+    got = ask_engine(&lent, buffer.now + GUARD, room, tallies.now + GUARD, tallies_room);
     all_kept = kept(card, a->card, a->card_len) & kept(second, a->second, a->second_len) & kept(vectors, a->vectors, a->vectors_len);
-    if (got != answer_of(text) || memcmp(buffer, want, sizeof buffer) || !all_kept)
+    if (got != answer_of(text) || !is_right(&buffer) || !is_right(&tallies) || !all_kept)
         tell(name, a, text, got);
 }
 
 /* One card with each list of vectors, or of wires, in a text. */
-static void each_list(const char *name, struct asked *a, const char *card, const char *vectors, size_t room, const char *text)
+static void each_list(const char *name, struct asked *a, const char *card, const char *vectors, size_t room, size_t tallies_room,
+                      const char *text)
 {
     uint8_t *card_bytes, *vector_bytes;
     parse(card, &card_words);
@@ -796,7 +859,7 @@ static void each_list(const char *name, struct asked *a, const char *card, const
         vectors = parse(vectors, &vector_words);
         vector_bytes = bytes_of(&vector_words, &a->vectors_len);
         a->vectors = vector_bytes;
-        one_call(name, a, room, text);
+        one_call(name, a, room, tallies_room, text);
         free(vector_bytes);
     } while (*vectors++ == '|');
     free(card_bytes);
@@ -811,7 +874,7 @@ static void run_checks(void)
         struct asked a = { .call = CHECK };
         char text[80];
         snprintf(text, sizeof text, "%s%s", isdigit((unsigned char)c->want[0]) ? "0: " : "", c->want);
-        each_list(c->name, &a, c->card, "", W(5), text);
+        each_list(c->name, &a, c->card, "", W(5), 0, text);
     }
 }
 
@@ -827,7 +890,7 @@ static void run_value_row(const struct value_case *c)
             char word[4] = { ' ', bits[g], 0, 0 };
             strcat(text, word);
         }
-        each_list("values", &a, c->card, c->vector, W(n + 1), text);
+        each_list("values", &a, c->card, c->vector, W(n + 1), 0, text);
         bits += n;
         bits += strspn(bits, " ");
     }
@@ -846,7 +909,18 @@ static void run_calls(void)
         struct asked a = { .call = c->call, .number = c->number };
         char name[24];
         snprintf(name, sizeof name, "row %zu", i);
-        each_list(name, &a, c->card, c->vectors, c->room, c->want);
+        each_list(name, &a, c->card, c->vectors, c->room, 0, c->want);
+    }
+}
+
+static void run_gradings(void)
+{
+    for (size_t i = 0; i < sizeof grade_cases / sizeof *grade_cases; i++) {
+        const struct grade_case *c = grade_cases + i;
+        struct asked a = { .call = GRADE };
+        char name[24];
+        snprintf(name, sizeof name, "grading %zu", i);
+        each_list(name, &a, c->card, c->vectors, c->marks_room, c->tallies_room, c->want);
     }
 }
 
@@ -859,7 +933,7 @@ static void run_joins(void)
         parse(c->b, &card_words);
         second = bytes_of(&card_words, &a.second_len);
         a.second = second;
-        each_list(c->name, &a, c->a, c->wires, c->room, c->want);
+        each_list(c->name, &a, c->a, c->wires, c->room, 0, c->want);
         free(second);
     }
 }
@@ -869,7 +943,7 @@ static void run_joins(void)
  * on its way (2,046 and 2,048) are caught. A word that is wrong at the very end is found. */
 static void run_longest_lists(void)
 {
-    struct asked a = { .call = TALLY };
+    struct asked a = { .call = GRADE };
     size_t words = 64 * (size_t)65536;
     uint8_t *card, *list = malloc(4 * words);
     if (!list)
@@ -881,12 +955,13 @@ static void run_longest_lists(void)
     a.card = card;
     a.vectors = list;
     a.vectors_len = 4 * 64 * 200;
-    one_call("200 vectors of 64 words", &a, W(2050), "3: 200 0*2045 200 0 200 0");
+    one_call("200 vectors of 64 words", &a, W(2050), W(2050),
+             "3: E0000000 C0000000*2045 E0000000 C0000000 E0000000 C0000000 | 200 0*2045 200 0 200 0");
     a.vectors_len = 4 * words;
-    one_call("65,536 vectors of 64 words", &a, W(2050), "refused 10 0");
+    one_call("65,536 vectors of 64 words", &a, W(2050), W(2050), "refused 10 0");
     a.vectors_len = 4 * (words - 64);
     list[a.vectors_len - 2] = 0xFF; /* a sixteenth input */
-    one_call("65,535 vectors of 64 words, the last one wrong", &a, W(2050), "refused 10 4194239");
+    one_call("65,535 vectors of 64 words, the last one wrong", &a, W(2050), W(2050), "refused 10 4194239");
     free(list);
     free(card);
 }
@@ -901,6 +976,7 @@ int main(void)
     run_checks();
     run_values();
     run_calls();
+    run_gradings();
     run_joins();
     run_longest_lists();
     differ += run_astray(&cases);

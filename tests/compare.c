@@ -12,17 +12,23 @@ void compare_seed(uint64_t seed)
     gen_seed(seed);
 }
 
+uint32_t word_at(const uint8_t *bytes, size_t at)
+{
+    bytes += 4 * at;
+    return (uint32_t)bytes[0] << 24 | (uint32_t)bytes[1] << 16 | (uint32_t)bytes[2] << 8 | bytes[3];
+}
+
 /* ---- lent parts between guard bytes ---- */
 
 enum { GUARD = 64, ROOM = COMPARE_ROOM + 2 * GUARD };
 
+/* The engine has it now. It should stay as it was, or of a buffer become what brute force makes of it. */
 struct lent {
-    uint8_t now[ROOM], was[ROOM];
+    uint8_t now[ROOM], should[ROOM];
     size_t front, len;
 };
 
-static struct lent card, second, vectors, buffer;
-static uint8_t wanted[ROOM]; /* the buffer as brute force leaves it */
+static struct lent card, second, vectors, buffer, tallies;
 
 static size_t whole(const struct lent *l)
 {
@@ -33,44 +39,56 @@ static uint8_t *lend(struct lent *l, const uint8_t *from, size_t len)
 {
     l->front = GUARD + gen_below(4);
     l->len = len;
-    memset(l->was, 0x5A, l->front);
+    memset(l->should, 0x5A, l->front);
     if (len)
-        memcpy(l->was + l->front, from, len);
-    memset(l->was + l->front + len, 0xA5, GUARD);
-    memcpy(l->now, l->was, whole(l));
+        memcpy(l->should + l->front, from, len);
+    memset(l->should + l->front + len, 0xA5, GUARD);
+    memcpy(l->now, l->should, whole(l));
     return l->now + l->front;
 }
 
-static int intact(const struct lent *l)
+static uint8_t *lend_buffer(struct lent *l, size_t room)
 {
-    return !memcmp(l->now, l->was, whole(l));
+    static uint8_t content[COMPARE_ROOM];
+    unsigned any = gen_below(256);
+    for (size_t i = 0; i < room; i++)
+        content[i] = (uint8_t)(i * 131 + any);
+    return lend(l, content, room);
+}
+
+static int is_right(const struct lent *l)
+{
+    return !memcmp(l->now, l->should, whole(l));
 }
 
 /* ---- one call ---- */
 
 static void show_part(const char *name, const struct lent *l)
 {
-    const uint8_t *bytes = l->was + l->front;
-    printf("  %s, %zu bytes%s:", name, l->len, intact(l) ? "" : ", ALTERED");
+    const uint8_t *bytes = l->should + l->front;
+    printf("  %s, %zu bytes%s:", name, l->len, is_right(l) ? "" : ", ALTERED");
     for (size_t i = 0; i < l->len && i < 240; i++)
         printf("%s%02X", i % 4 ? "" : " ", bytes[i]);
     printf("%s\n", l->len > 240 ? " .." : "");
 }
 
+static void show_buffer(const char *name, const struct lent *l)
+{
+    for (size_t i = 0; i < whole(l); i++)
+        if (l->now[i] != l->should[i]) {
+            printf("  %s byte %ld of %zu: %02X, should be %02X\n", name, (long)i - (long)l->front, l->len, l->now[i], l->should[i]);
+            return;
+        }
+}
+
 static void show_difference(const struct asked *a, uint64_t got, uint64_t want)
 {
-    compared.differ++;
-    if (compared.differ > 5)
+    if (!differ(call_names[a->call]))
         return;
-    printf("DIFFERENCE: %s, seed %llu, input %u, number %u\n", call_names[a->call], (unsigned long long)compared.seed,
-           compared.inputs, (unsigned)a->number);
-    printf("  engine answers %llu %llu, brute force %llu %llu\n", (unsigned long long)(got >> 32),
+    printf("  number %u; engine answers %llu %llu, brute force %llu %llu\n", (unsigned)a->number, (unsigned long long)(got >> 32),
            (unsigned long long)(got & 0xFFFFFFFFu), (unsigned long long)(want >> 32), (unsigned long long)(want & 0xFFFFFFFFu));
-    for (size_t i = 0; i < whole(&buffer); i++)
-        if (buffer.now[i] != wanted[i]) {
-            printf("  buffer byte %ld of %zu: %02X, should be %02X\n", (long)i - (long)buffer.front, buffer.len, buffer.now[i], wanted[i]);
-            break;
-        }
+    show_buffer("buffer", &buffer);
+    show_buffer("tallies", &tallies);
     show_part("card", &card);
     show_part("second card", &second);
     show_part(a->call == JOIN ? "wires" : "vectors", &vectors);
@@ -85,22 +103,19 @@ static void count_call(uint64_t answer)
         compared.done++;
 }
 
-uint64_t compare(const struct asked *a, size_t room)
+uint64_t compare(const struct asked *a, size_t room, size_t tallies_room)
 {
-    static uint8_t content[COMPARE_ROOM];
     struct asked lent = *a;
     uint64_t got, want;
-    for (size_t i = 0; i < room; i++)
-        content[i] = (uint8_t)(i * 131 + compared.calls * 29 + 7);
     lent.card = lend(&card, a->card, a->card_len);
     lent.second = lend(&second, a->second, a->second_len);
     lent.vectors = lend(&vectors, a->vectors, a->vectors_len);
-    compared.buffer = lend(&buffer, content, room);
-    memcpy(wanted, buffer.was, whole(&buffer));
-    want = ask_brute(&lent, wanted + buffer.front, room);
-    got = ask_engine(&lent, buffer.now + buffer.front, room);
+    compared.buffer = lend_buffer(&buffer, room);
+    compared.tallies = lend_buffer(&tallies, tallies_room);
+    want = ask_brute(&lent, buffer.should + buffer.front, room, tallies.should + tallies.front, tallies_room);
+    got = ask_engine(&lent, buffer.now + buffer.front, room, tallies.now + tallies.front, tallies_room);
     count_call(want);
-    if (got != want || memcmp(buffer.now, wanted, whole(&buffer)) || !intact(&card) || !intact(&second) || !intact(&vectors))
+    if (got != want || !is_right(&buffer) || !is_right(&tallies) || !is_right(&card) || !is_right(&second) || !is_right(&vectors))
         show_difference(a, got, want);
     return want;
 }
@@ -118,6 +133,14 @@ size_t pick_room(size_t words)
     default: break;
     }
     return room + (gen_chance(40) ? 1 + gen_below(3) : 0);
+}
+
+int differ(const char *what)
+{
+    if (++compared.differ > 5)
+        return 0;
+    printf("DIFFERENCE: %s, seed %llu, input %u\n", what, (unsigned long long)compared.seed, compared.inputs);
+    return 1;
 }
 
 int too_few(const char *what, unsigned got, unsigned least)

@@ -342,6 +342,10 @@ void gen_spoil_card(struct input *in)
     case 3: put(in, odd_words[gen_below(ODD_WORDS)]); break;
     case 4: in->card_odd = 1 + gen_below(3); break;
     case 5: hide_all(in); break;
+    case 6: /* a node that names none */
+        if (at < n && in->card[at] >> 29 == 4)
+            in->card[at] = 0x80000001;
+        break;
     default:
         if (at < n)
             in->card[at] = changed(in->card[at]);

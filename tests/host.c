@@ -1,9 +1,10 @@
-/* host.c: the engine against brute force, through the seven calls on one card, on generated inputs.
+/* host.c: the engine against brute force, through the six calls on one card, on generated inputs.
  *
  *   host [SEED]    the seed of the part that differs from run to run
  *
  * Exits 1 on any difference, and where the inputs reached too little.
  */
+#include "brute.h"
 #include "compare.h"
 
 #include <stdio.h>
@@ -14,10 +15,19 @@ enum { SMALL_INPUTS = 20000, FRESH_INPUTS = 2000, LIMIT_CARDS = 192, LIST_CARDS 
 
 /* ---- counting ---- */
 
+/* Of card_grade on a right card with right vectors; the last four where it was done. */
+enum { DONE, MARKS_SHORT, TALLIES_SHORT, BOTH_SHORT, MARKS_LONG, TALLIES_LONG, MARKS_ODD, TALLIES_ODD, GRADED };
+static const struct {
+    const char *name;
+    unsigned least;
+} grades[GRADED] = { { "done", 4000 },       { "marks short alone", 800 }, { "tallies short alone", 800 }, { "both short", 150 },
+                     { "marks long", 800 }, { "tallies long", 800 },      { "leftover in marks", 1600 },  { "leftover in tallies", 1600 } };
+
 static struct {
     unsigned limits, limits_accepted, cards_accepted;
     unsigned odd_card, odd_vectors, odd_buffer, short_buffer, long_buffer;
     unsigned lists[4]; /* of 0, 1, 65,535 and 65,536 vectors */
+    unsigned grade[GRADED];
 } total;
 
 static void count_room(size_t room, size_t words)
@@ -25,6 +35,42 @@ static void count_room(size_t room, size_t words)
     total.odd_buffer += room % 4 != 0;
     total.short_buffer += room / 4 < words;
     total.long_buffer += room / 4 > words;
+}
+
+/* ---- what came of card_grade ---- */
+
+/* The faults of the card as it is: a spoilt one can still be right, with other numbers. */
+static size_t faults_of(const struct asked *a)
+{
+    uint8_t numbers[20];
+    return brute_check(a->card, a->card_len, numbers, sizeof numbers) ? 0 : word_at(numbers, 4);
+}
+
+/* A tally is 0 exactly where the mark is that no vector catches the fault. */
+static void check_law(size_t faults)
+{
+    for (size_t f = 0; f < faults; f++)
+        if ((word_at(compared.tallies, f) == 0) != (word_at(compared.buffer, f) == 0xC0000000u)) {
+            differ("a fault's mark and tally");
+            return;
+        }
+}
+
+/* The answer must be what the two rooms, and they alone, make of a right card and right vectors. */
+static void take_grade(const struct asked *a, uint64_t answer, size_t room, size_t tallies_room)
+{
+    size_t faults = faults_of(a);
+    int few = (room / 4 < faults ? MARKS_SHORT : 0) + (tallies_room / 4 < faults ? TALLIES_SHORT : 0);
+    total.grade[few]++;
+    if (few == DONE ? answer >> 32 != 0 : answer != ((uint64_t)12 << 32) + (few == TALLIES_SHORT))
+        differ("the refusal of a short buffer");
+    if (few != DONE)
+        return;
+    total.grade[MARKS_LONG] += room / 4 > faults;
+    total.grade[TALLIES_LONG] += tallies_room / 4 > faults;
+    total.grade[MARKS_ODD] += room % 4 != 0;
+    total.grade[TALLIES_ODD] += tallies_room % 4 != 0;
+    check_law(faults);
 }
 
 /* ---- one call ---- */
@@ -36,8 +82,7 @@ static size_t words_of(enum call call, const struct input *in)
     switch (call) {
     case CHECK: return 5;
     case CRITICAL: return in->nodes;
-    case FIRST:
-    case TALLY: return faults;
+    case GRADE: return faults;
     default: return in->graphs;
     }
 }
@@ -59,16 +104,22 @@ static int is_single(enum call call)
 /* One call on the card and the vectors. Calls on one vector mostly get the first one alone. */
 static void one_call(struct asked *a, enum call call, const struct input *in, size_t list_len)
 {
-    size_t one = 4 * (size_t)((in->inputs + 15) / 16), words = words_of(call, in), room = pick_room(words);
+    size_t one = 4 * (size_t)((in->inputs + 15) / 16), words = words_of(call, in);
+    size_t room = pick_room(words), tallies_room = call == GRADE ? pick_room(words) : 0;
     a->call = call;
     a->vectors_len = list_len;
     if (is_single(call) && list_len > one && gen_chance(95))
         a->vectors_len = one;
-    a->number = pick_number(call == FAULT ? (uint32_t)words_of(FIRST, in) : in->graphs);
+    a->number = pick_number(call == FAULT ? (uint32_t)words_of(GRADE, in) : in->graphs);
     count_room(room, words);
-    uint64_t answer = compare(a, room);
-    if (call == CHECK && (answer == 0 || answer >> 32 == 12))
+    if (call == GRADE)
+        count_room(tallies_room, words);
+    uint64_t answer = compare(a, room, tallies_room);
+    int right = answer >> 32 == 0 || answer >> 32 == 12;
+    if (call == CHECK && right)
         total.cards_accepted++;
+    if (call == GRADE && right)
+        take_grade(a, answer, room, tallies_room);
 }
 
 /* All calls on one card. */
@@ -81,7 +132,7 @@ static void one_input(const struct input *in)
     compared.inputs++;
     total.odd_card += in->card_odd != 0;
     total.odd_vectors += in->vectors_odd != 0;
-    for (int call = CHECK; call <= TALLY; call++)
+    for (int call = CHECK; call <= GRADE; call++)
         one_call(&a, (enum call)call, in, list_len);
 }
 
@@ -146,6 +197,8 @@ static int reached_too_little(void)
     few += too_few("leftovers in buffers", total.odd_buffer, 5000) + too_few("short buffers", total.short_buffer, 5000);
     for (unsigned r = 1; r <= 12; r++)
         few += too_few("one refusal", compared.refusals[r], 20);
+    for (int i = 0; i < GRADED; i++)
+        few += too_few(grades[i].name, total.grade[i], grades[i].least);
     return few;
 }
 
@@ -158,7 +211,10 @@ static void report(void)
         printf(" %u:%u", r, compared.refusals[r]);
     printf("\nhost: leftovers in %u cards, %u vectors, %u buffers; %u buffers short, %u long\n", total.odd_card,
            total.odd_vectors, total.odd_buffer, total.short_buffer, total.long_buffer);
-    printf("host: lists of 0, 1, 65535, 65536 vectors: %u %u %u %u\n", total.lists[0], total.lists[1], total.lists[2], total.lists[3]);
+    printf("host: card_grade");
+    for (int i = 0; i < GRADED; i++)
+        printf("%s %s %u", i ? "," : "", grades[i].name, total.grade[i]);
+    printf("\nhost: lists of 0, 1, 65535, 65536 vectors: %u %u %u %u\n", total.lists[0], total.lists[1], total.lists[2], total.lists[3]);
     printf("host: %u differ\n", compared.differ);
 }
 

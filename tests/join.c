@@ -34,12 +34,6 @@ struct numbers {
     unsigned refused, inputs, graphs, nodes;
 };
 
-static uint32_t word_at(const uint8_t *bytes, size_t at)
-{
-    bytes += 4 * at;
-    return (uint32_t)bytes[0] << 24 | (uint32_t)bytes[1] << 16 | (uint32_t)bytes[2] << 8 | bytes[3];
-}
-
 static struct numbers numbers_of(const struct input *in, const uint8_t *card, size_t len)
 {
     struct numbers n = { 0, in->inputs, in->graphs, in->nodes };
@@ -87,41 +81,35 @@ static void count_stages(const int *broken)
 
 /* ---- the joined card, and the two worked out together ---- */
 
-static void differ(const char *what)
-{
-    if (++compared.differ > 5)
-        return;
-    printf("DIFFERENCE: the joined card's %s, seed %llu, input %u\n", what, (unsigned long long)compared.seed, compared.inputs);
-}
-
-static uint8_t got[4 * FAULTS], want[4 * FAULTS], tallies[4 * FAULTS];
+static uint8_t got[4 * FAULTS], want[4 * FAULTS], got_tallies[4 * FAULTS], want_tallies[4 * FAULTS];
 
 /* The values of all graphs, with no fault and with one. */
 static void compare_values(struct asked *a, const struct numbers *n)
 {
     a->call = GOOD;
     brute_together_values(a->vectors, BRUTE_NO_FAULT, want);
-    if (ask_engine(a, got, sizeof got) || memcmp(got, want, 4 * (size_t)n->graphs))
-        differ("values");
+    if (ask_engine(a, got, sizeof got, NULL, 0) || memcmp(got, want, 4 * (size_t)n->graphs))
+        differ("the joined card's values");
     a->call = FAULT;
     a->number = gen_below(2 * n->nodes + 2 * n->graphs);
     brute_together_values(a->vectors, a->number, want);
-    if (ask_engine(a, got, sizeof got) || memcmp(got, want, 4 * (size_t)n->graphs))
-        differ("values with a fault in");
+    if (ask_engine(a, got, sizeof got, NULL, 0) || memcmp(got, want, 4 * (size_t)n->graphs))
+        differ("the joined card's values with a fault in");
     total.values += 2;
 }
 
-/* Both gradings by a list. */
+/* Marks and tallies of a list. */
 static void compare_grading(struct asked *a, const struct numbers *n)
 {
     size_t faults = 2 * (size_t)n->nodes + 2 * (size_t)n->graphs;
-    uint64_t marked = brute_together_grade(a->vectors, a->vectors_len, want, tallies);
-    a->call = FIRST;
-    if (ask_engine(a, got, sizeof got) != marked || memcmp(got, want, 4 * faults))
-        differ("marks");
-    a->call = TALLY;
-    if (ask_engine(a, got, sizeof got) != marked || memcmp(got, tallies, 4 * faults))
-        differ("tallies");
+    uint64_t marked = brute_together_grade(a->vectors, a->vectors_len, want, want_tallies);
+    a->call = GRADE;
+    if (ask_engine(a, got, sizeof got, got_tallies, sizeof got_tallies) != marked)
+        differ("the joined card's marked count");
+    if (memcmp(got, want, 4 * faults))
+        differ("the joined card's marks");
+    if (memcmp(got_tallies, want_tallies, 4 * faults))
+        differ("the joined card's tallies");
     total.gradings++;
     total.faults += (unsigned)faults;
 }
@@ -166,7 +154,7 @@ static void one_pair(void)
     total.odd[1][ask.second_len % 4]++;
     total.odd[2][ask.vectors_len % 4]++;
     total.odd[3][room % 4]++;
-    uint64_t answer = compare(&ask, room);
+    uint64_t answer = compare(&ask, room, 0);
     if (answer >> 32 == 0) {
         total.graphs[0] += n.graphs == 1024;
         total.nodes[0] += n.nodes == 4096;

@@ -1,4 +1,4 @@
-/* long.c: both gradings by the longest list there is, 65,535 vectors of 64 words.
+/* long.c: the grading by the longest list there is, 65,535 vectors of 64 words.
  *
  * The card has 1,023 inputs and one observable graph that copies input WATCHED. So a vector catches the faults that
  * hold the input, the graph or its node at the opposite of the input's value, and nothing else: what is expected
@@ -11,7 +11,7 @@
 
 enum { INPUTS = 1023, WIDTH = 64, VECTORS = 65535, WATCHED = 5, FAULTS = 2 * 1 + 2 * 1024 };
 
-static uint8_t card[4 * (INPUTS + 3)], answers[4 * FAULTS];
+static uint8_t card[4 * (INPUTS + 3)], marks[4 * FAULTS], tallies[4 * FAULTS];
 static uint32_t tally[2], first[2] = { VECTORS, VECTORS };
 
 static void put(uint8_t *bytes, size_t at, uint32_t word)
@@ -20,9 +20,9 @@ static void put(uint8_t *bytes, size_t at, uint32_t word)
     bytes[0] = (uint8_t)(word >> 24), bytes[1] = (uint8_t)(word >> 16), bytes[2] = (uint8_t)(word >> 8), bytes[3] = (uint8_t)word;
 }
 
-static uint32_t get(size_t at)
+static uint32_t get(const uint8_t *bytes, size_t at)
 {
-    const uint8_t *bytes = answers + 4 * at;
+    bytes += 4 * at;
     return (uint32_t)bytes[0] << 24 | (uint32_t)bytes[1] << 16 | (uint32_t)bytes[2] << 8 | bytes[3];
 }
 
@@ -53,13 +53,13 @@ static uint32_t caught_at(uint32_t fault)
     return 2;
 }
 
-static unsigned differ(int marks)
+static unsigned differ(void)
 {
     unsigned wrong = 0;
     for (uint32_t f = 0; f < FAULTS; f++) {
         uint32_t v = caught_at(f);
-        uint32_t want = marks ? (v < 2 ? 0xE0000000u + first[v] : 0xC0000000u) : (v < 2 ? tally[v] : 0);
-        wrong += get(f) != want;
+        wrong += get(marks, f) != (v < 2 ? 0xE0000000u + first[v] : 0xC0000000u);
+        wrong += get(tallies, f) != (v < 2 ? tally[v] : 0);
     }
     return wrong;
 }
@@ -74,11 +74,9 @@ int main(void)
     put(card, INPUTS + 1, 0x60000000 + WATCHED);
     put(card, INPUTS + 2, 0x80000001);
     fill(vectors);
-    uint64_t marked = card_first_marking(card, sizeof card, vectors, len, answers, sizeof answers);
-    unsigned wrong = (marked != 6) + differ(1);
-    marked = card_tally(card, sizeof card, vectors, len, answers, sizeof answers);
-    wrong += (marked != 6) + differ(0);
-    printf("long: %d vectors of %d words graded twice, %u differ\n", VECTORS, WIDTH, wrong);
+    uint64_t marked = card_grade(card, sizeof card, vectors, len, marks, sizeof marks, tallies, sizeof tallies);
+    unsigned wrong = (marked != 6) + differ();
+    printf("long: %d vectors of %d words graded, %u differ\n", VECTORS, WIDTH, wrong);
     free(vectors);
     return wrong != 0;
 }

@@ -14,7 +14,7 @@
 
 enum { STACK = 16 << 20, FILL = 0x5C, WORDS = 9216 };
 
-static uint8_t card[4 * WORDS], vector[4 * 64], wires[4 * 1024], buffer[4 * 10240];
+static uint8_t card[4 * WORDS], vector[4 * 64], wires[4 * 1024], buffer[4 * 10240], tallies[4 * 10240];
 static size_t words, vector_words;
 
 static void put_word(uint8_t *bytes, size_t at, uint32_t w)
@@ -55,7 +55,7 @@ static void make_card(unsigned inputs, unsigned graphs, unsigned n)
 
 static void *one_call(void *asked)
 {
-    uint64_t answer = ask_engine(asked, buffer, sizeof buffer);
+    uint64_t answer = ask_engine(asked, buffer, sizeof buffer, tallies, sizeof tallies);
     return answer >> 32 ? asked : NULL; /* no call here is refused */
 }
 
@@ -95,7 +95,7 @@ static void take_in(struct asked *a)
 
 static void each_call(void)
 {
-    for (int call = CHECK; call <= TALLY; call++) {
+    for (int call = CHECK; call <= GRADE; call++) {
         struct asked a = { .call = (enum call)call, .card = card, .card_len = 4 * words, .vectors = vector, .vectors_len = 4 * vector_words };
         a.number = call == FAULT; /* fault 1 forces the exit that is taken anyway, so that the path stays as long */
         take_in(&a);

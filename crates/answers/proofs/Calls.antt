@@ -65,3 +65,18 @@ module _ (a : Answer) (form : Counts → Verdict) (own : Counts → List Test) (
     pub call-done : firstBroken (own c) ≡ Sound → (reply.Done (number c) ≡ replied a (tests form own) number) × (after c ≡ written a (tests form own) after before)
     unfolding replied written
     call-done q = let (h, u) = opened-accepted a form e in (rw (h, u, q), rw (h, u, q))
+
+-- the same of a call with two buffers
+module _ (a : Answer) (form : Counts → Verdict) (own : Counts → List Test) (number : Counts → ℕ) (one : Counts → List ℕ) (b : List ℕ) (two : Counts → List ℕ) (d : List ℕ) where
+  pub two-stop : {r : Rule} {p : ℕ} → opened a form ≡ answer.Refused r p
+      → (reply.Refused r p ≡ replied a (tests form own) number) × (b ≡ written a (tests form own) one b) × (d ≡ written a (tests form own) two d)
+  two-stop e = let s = call-stops a form own number one b e in (s .0, s .1, call-stops a form own number two d e .1)
+
+  module _ {c : Counts} (e : opened a form ≡ answer.Accepted c) where
+    pub two-break : {r : Rule} {p : ℕ} → firstBroken (own c) ≡ Broken r p
+        → (reply.Refused r p ≡ replied a (tests form own) number) × (b ≡ written a (tests form own) one b) × (d ≡ written a (tests form own) two d)
+    two-break q = let s = call-breaks a form own number one b e q in (s .0, s .1, call-breaks a form own number two d e q .1)
+
+    pub two-done : firstBroken (own c) ≡ Sound
+        → (reply.Done (number c) ≡ replied a (tests form own) number) × (one c ≡ written a (tests form own) one b) × (two c ≡ written a (tests form own) two d)
+    two-done q = let s = call-done a form own number one b e q in (s .0, s .1, call-done a form own number two d e q .1)

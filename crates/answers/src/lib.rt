@@ -36,7 +36,7 @@ pub enum Answer {
     Refused(Rule, usize),
 }
 
-// The reply of a call that works on cards: done, with the number that it tells beside its buffer (the length of a change list, the marked
+// The reply of a call that works on cards: done, with the number that it tells beside its buffers (the length of a change list, the marked
 // count of a grading, the number of words of a joined card, else 0); or refused, as a check is.
 pub enum Reply {
     Done(usize),

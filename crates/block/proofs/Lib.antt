@@ -1,4 +1,3 @@
--- One vector and a block of them taken in, each law for both gradings.
+-- One vector and a block of them taken in.
 pub mod Updated
-pub mod Dropped
 pub mod Started

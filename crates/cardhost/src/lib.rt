@@ -58,22 +58,20 @@ pub extern "C" fn card_critical_nodes(card: &[u8], vector: &[u8], nodes: &mut [u
     hostchanges::critical_nodes(card, vector, nodes)
 }
 
-// First-marking: one word for each fault, C0000000 if no vector catches it, else E0000000 plus the number of the earliest that does; and the marked count.
+// The grading: for each fault its mark, C0000000 if no vector catches it, else E0000000 plus the number of the earliest that does; its tally, the number of
+// vectors that catch it; and the marked count.
 #[no_mangle]
-pub extern "C" fn card_first_marking(card: &[u8], vectors: &[u8], marks: &mut [u8]) -> u64
-    ensures { λ r. ⌜ (r ≡ gradeAnswer (now (card .entry)) (now (vectors .entry)) (now (marks .entry)))
-        × (now (marks .exit) ≡ markBytes (now (card .entry)) (now (vectors .entry)) (now (marks .entry))) ⌝ }
+pub extern "C" fn card_grade(
+    card: &[u8],
+    vectors: &[u8],
+    marks: &mut [u8],
+    tallies: &mut [u8],
+) -> u64
+    ensures { λ r. ⌜ (r ≡ gradeAnswer (now (card .entry)) (now (vectors .entry)) (now (marks .entry)) (now (tallies .entry)))
+        × (now (marks .exit) ≡ markBytes (now (card .entry)) (now (vectors .entry)) (now (marks .entry)) (now (tallies .entry)))
+        × (now (tallies .exit) ≡ tallyBytes (now (card .entry)) (now (vectors .entry)) (now (marks .entry)) (now (tallies .entry))) ⌝ }
 {
-    hostgrade::first_marking(card, vectors, marks)
-}
-
-// Tallying: one word for each fault, the number of vectors that catch it; and the marked count.
-#[no_mangle]
-pub extern "C" fn card_tally(card: &[u8], vectors: &[u8], tallies: &mut [u8]) -> u64
-    ensures { λ r. ⌜ (r ≡ gradeAnswer (now (card .entry)) (now (vectors .entry)) (now (tallies .entry)))
-        × (now (tallies .exit) ≡ tallyBytes (now (card .entry)) (now (vectors .entry)) (now (tallies .entry))) ⌝ }
-{
-    hostgrade::tally(card, vectors, tallies)
+    hostgrade::grade(card, vectors, marks, tallies)
 }
 
 // Two cards wired together: the number of the joined card's words, which stand in the front of the buffer.

@@ -29,5 +29,5 @@ starred-hold =
     also (refl, refl, refl, refl, refl, refl, refl, refl)
     also (refl, refl, refl)
     also (refl, refl, refl, refl, refl, refl, refl, refl)
-    also (refl, refl, refl, refl, refl, refl)
-    also (refl, refl, refl, refl, refl, refl)
+    also (refl, refl, refl, refl, refl, refl, refl)
+    also (refl, refl, refl, refl, refl, refl, refl)

@@ -1,6 +1,6 @@
 -- What a row of a table of cases says: what the calls tell and leave in a lent buffer, by the definitions that their own contracts cite; and of a
 -- case and of a grading the same by the marking rules of document 01. Assumes nothing.
-use Prim.Native.Nat.{ℕ, _-_, _*_, _/_, _%_}
+use Prim.Native.Nat.{ℕ, _+_, _-_, _*_, _/_, _%_}
 use mathlib.Core.Path.{_≡_}
 use mathlib.Core.List.{List, [], _∷_, map}
 use mathlib.Core.Bool.{Bool, _&&_, _||_}
@@ -30,7 +30,7 @@ pub record Case : Type 0 where
   pub caught : List ℕ
   pub critical : List ℕ
 
--- a card under a list of vectors: the marked count, and for each fault its word of first-marking and its tally
+-- a card under a list of vectors: the marked count, and for each fault its mark and its tally
 pub record Grading : Type 0 where
   pub card : List ℕ
   pub counts : Counts
@@ -111,7 +111,7 @@ CaseHolds r =
     × (tab (λ j. flag (byRule4 ws c x j)) N ≡ r .critical)
     × (chosen (byRule5 ws c x) (c .faults) ≡ r .caught)
 
--- a grading holds by the check, by the two calls, and by rule 5 over its n vectors: the marked count, each fault's first vector and its tally
+-- a grading holds by the check, by the call, and by rule 5 over its n vectors: the marked count, each fault's first vector and its tally
 abbrev pub GradingHolds : Grading → Type 0
 GradingHolds r =
     let ws = r .card in
@@ -119,10 +119,13 @@ GradingHolds r =
     let xs = r .under in
     let F = c .faults in
     let n = vectors (c .inputs) xs in
+    let b = lent F in
+    let d = lent (F + 1) in
     let marks : ℕ → ℕ → Bool = λ f t. byRule5 ws c (vector (c .inputs) xs t) f in
     (checkTold ws ≡ result (valuesOf c))
-    × (call (gradeTold ws xs) (marksBuffer ws xs) F ≡ done (r .marked) (r .marks) F)
-    × (call (gradeTold ws xs) (talliesBuffer ws xs) F ≡ done (r .marked) (r .tallies) F)
+    × (gradeTold ws xs b d ≡ result (r .marked ∷ []))
+    × (marksBuffer ws xs b d ≡ front (r .marks) b)
+    × (talliesBuffer ws xs b d ≡ front (r .tallies) d)
     × (count (λ f. inGrade ws c xs f && some-below (marks f) n) F ≡ r .marked)
     × (tab (λ f. markBy (marks f) n) F ≡ r .marks)
     × (tab (λ f. count (marks f) n) F ≡ r .tallies)

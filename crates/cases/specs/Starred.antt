@@ -29,7 +29,7 @@ akersF A B C = A || (not B && C)
 abbrev pub eight : List (List ℕ)
 eight = map (λ n. (0xA0000000 + n) ∷ []) (numbers 8)
 
--- the words of first-marking: unmarked, and marked first by vector 0 or 1
+-- marks: unmarked, and marked first by vector 0 or 1
 abbrev pub none : ℕ
 none = 0xC0000000
 

@@ -13,8 +13,8 @@ use Rattle.layout.proofs.Firsts.{apart, first-few, node-below}
 use Rattle.layout.specs.Tables.{Ready}
 use Rattle.layout.proofs.Places.{walkable, size-is}
 use Rattle.catches.specs.Caught.{caughtAt}
-use Rattle.catches.specs.Told.{Told, toldAt}
-use Rattle.catches.specs.Words.{Cleared, Along, GraphWords}
+use Rattle.catches.specs.Told.{Told}
+use Rattle.catches.specs.Words.{Cleared, Along}
 
 -- a run of words that become 2, one by one
 pub clear-none : (a : ℕ) (xs : List ℕ) → Cleared a a xs xs
@@ -83,32 +83,24 @@ module _ {ws : List ℕ} {c : Counts} {x : List ℕ} {g : ℕ} where
   pub along-then : {k m : ℕ} {xs ys zs : List ℕ} → Along ws c x g k xs ys → Along ws c x g m ys zs → Along ws c x g m xs zs
   along-then s r = record { long = r .long ∙ s .long; below = r .below; onward = r .onward; outside = λ j n. r .outside j n ∙ s .outside j n }
 
--- the graph's own word, after those of its nodes
-module _ {ws : List ℕ} {c : Counts} (a : Shape ws c) {x : List ℕ} {g : ℕ} (h : g < c .graphs) where
-  pub whole-written : {k u : ℕ} {xs ys zs : List ℕ} (v : ℕ → ℕ) → Along ws c x g k xs ys → ((i : ℕ) → i < size ws g → getD ys (first ws g + i) 0 ≡ v (first ws g + i))
-      → c .nodes + c .graphs ≤ length xs → zs ≡ set ys (c .nodes + g) u → u ≡ v (c .nodes + g) → GraphWords ws c g v xs zs
-  whole-written {k} {u} {xs} {ys} v s n l z e = rw z (record {
-    long = simp length-set (s .long);
-    nodes = λ i b. getD-set-other ys (c .nodes + g) (first ws g + i) u 0 (λ q. omega (arith, node-below a g i h b)) ∙ n i b;
-    whole = getD-set-same ys (c .nodes + g) u 0 (omega (arith, s .long)) ∙ e;
-    outside = λ j p q. getD-set-other ys (c .nodes + g) j u 0 q ∙ s .outside j p;
-  })
+-- the graph's own word, after those of its nodes, and the graphs before it
+pub told-more : {ws : List ℕ} {c : Counts} → Shape ws c → {x xs ys zs : List ℕ} {g u : ℕ} → g < c .graphs → Told ws c x g xs → Along ws c x g (size ws g) xs ys
+    → zs ≡ set ys (c .nodes + g) u → u ≡ caughtAt ws c x (c .nodes + g) → Told ws c x (g + 1) zs
+told-more {ws} {c} a {x} {xs} {ys} {zs} {g} {u} h t s z e = rw z (record {
+  long = simp length-set (omega (arith, t .long, s .long));
+  nodes = λ i k p q.
+      getD-set-other ys (c .nodes + g) (first ws i + k) u 0 (λ o. omega (arith, node-below a i k (omega arith) q))
+      ∙ elim (ℕ-discrete i g) [
+        | yes j ↦ rw j (s .below k (rw j at q) (rw j at q))
+        | no n ↦ s .outside (first ws i + k) (λ m b o. apart ws i g k m (λ w. n (sym w)) q b o) ∙ t .nodes i k (omega arith) q
+      ];
+  graphs = λ i p. elim (ℕ-discrete i g) [
+    | yes j ↦ rw j (getD-set-same ys (c .nodes + g) u 0 (omega (arith, t .long, s .long)) ∙ e)
+    | no n ↦
+        getD-set-other ys (c .nodes + g) (c .nodes + i) u 0 (λ o. n (omega arith))
+        ∙ s .outside (c .nodes + i) (λ m b o. omega (arith, node-below a g m h b)) ∙ t .graphs i (omega arith)
+  ];
+})
 
-  -- and the graphs before it
-  pub told-more : {live xs ys : List ℕ} (v : ℕ → ℕ) → Told ws c x live g xs → GraphWords ws c g v xs ys → ((p : ℕ) → v p ≡ toldAt ws c x live g p) → Told ws c x live (g + 1) ys
-  told-more v t s e = record {
-    long = omega (arith, t .long, s .long);
-    nodes = λ i k p q. elim (ℕ-discrete i g) [
-      | yes z ↦ rw z (s .nodes k (rw z at q) ∙ e _)
-      | no n ↦
-          s .outside (first ws i + k) (λ m b u. apart ws i g k m (λ w. n (sym w)) q b u) (λ u. omega (arith, node-below a i k (omega arith) q))
-          ∙ t .nodes i k (omega arith) q
-    ];
-    graphs = λ i p. elim (ℕ-discrete i g) [
-      | yes z ↦ rw z (s .whole ∙ e _)
-      | no n ↦ s .outside (c .nodes + i) (λ m b u. omega (arith, node-below a g m h b)) (λ u. n (omega arith)) ∙ t .graphs i (omega arith)
-    ];
-  }
-
-pub told-none : {ws : List ℕ} {c : Counts} {x live xs : List ℕ} → c .nodes + c .graphs ≤ length xs → Told ws c x live 0 xs
+pub told-none : {ws : List ℕ} {c : Counts} {x xs : List ℕ} → c .nodes + c .graphs ≤ length xs → Told ws c x 0 xs
 told-none l = record { long = l; nodes = λ g k h i. absurd (omega arith); graphs = λ g h. absurd (omega arith) }

@@ -13,7 +13,7 @@ pub record Bits (c : Counts) (xs : List ℕ) : Type 0 where
   pub long : c .nodes + c .graphs ≤ length xs
   pub bit : (g : ℕ) → g < c .graphs → getD xs (c .nodes + g) 0 < 2
 
--- the first n graphs and their nodes are done: what is caught there, as far as they are looked at; the buffer of flips has the good values
-pub record Caught (ws : List ℕ) (c : Counts) (x live : List ℕ) (n : ℕ) (flips caught : List ℕ) : Type 0 where
+-- the first n graphs and their nodes are done: what is caught there; the buffer of flips has the good values
+pub record Caught (ws : List ℕ) (c : Counts) (x : List ℕ) (n : ℕ) (flips caught : List ℕ) : Type 0 where
   pub flat : Has (value ws c good x) (c .graphs) flips
-  pub told : Told ws c x live n caught
+  pub told : Told ws c x n caught

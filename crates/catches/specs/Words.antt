@@ -19,10 +19,3 @@ pub record Along (ws : List ℕ) (c : Counts) (x : List ℕ) (g k : ℕ) (xs ys 
   pub below : (i : ℕ) → i < k → i < size ws g → getD ys (first ws g + i) 0 ≡ caughtAt ws c x (first ws g + i)
   pub onward : (i : ℕ) → k ≤ i → i < size ws g → getD ys (first ws g + i) 0 ≡ 2
   pub outside : (j : ℕ) → ((i : ℕ) → i < size ws g → j ≡ first ws g + i → ⊥) → getD ys j 0 ≡ getD xs j 0
-
--- the words of graph g and of its nodes are those of v at their places, and all other words stay
-pub record GraphWords (ws : List ℕ) (c : Counts) (g : ℕ) (v : ℕ → ℕ) (xs ys : List ℕ) : Type 0 where
-  pub long : length ys ≡ length xs
-  pub nodes : (k : ℕ) → k < size ws g → getD ys (first ws g + k) 0 ≡ v (first ws g + k)
-  pub whole : getD ys (c .nodes + g) 0 ≡ v (c .nodes + g)
-  pub outside : (j : ℕ) → ((i : ℕ) → i < size ws g → j ≡ first ws g + i → ⊥) → (j ≡ c .nodes + g → ⊥) → getD ys j 0 ≡ getD xs j 0

@@ -10,14 +10,11 @@ ghost use Rattle.word32.specs.Fields.{exitOf};
 ghost use Rattle.layout.specs.Layout.{size};
 ghost use Rattle.layout.specs.Tables.{Ready, Tabled};
 ghost use Rattle.testvectors.specs.Vectors.{width};
-ghost use Rattle.value.specs.Settings.{good};
-ghost use Rattle.value.specs.Values.{follow, value};
+ghost use Rattle.value.specs.Values.{follow};
 ghost use Rattle.rules.specs.Rules.{critical};
 ghost use Rattle.sweep.specs.Swept.{Swept};
-ghost use Rattle.change.specs.Flips.{Has};
-ghost use Rattle.catches.specs.Caught.{caughtAt};
 ghost use Rattle.catches.specs.Good.{Bits, Caught};
-ghost use Rattle.catches.specs.Words.{Cleared, Along, GraphWords};
+ghost use Rattle.catches.specs.Words.{Cleared, Along};
 ghost use Rattle.catches.specs.Told.{Told, Room};
 use answers::Counts;
 
@@ -116,7 +113,7 @@ fn caught_whole(v: u32, alters: bool) -> u32
 }
 
 // Graph g and its nodes. The buffer of flips has the good values before and after.
-fn catch_live(
+fn catch_graph(
     card: &[u32],
     c: Counts,
     tables: &layout::Tables,
@@ -127,9 +124,8 @@ fn catch_live(
 )
     requires { ⌜ Tabled (now card) c (now tables) × Bits c (now values) × (g < c .graphs) × (c .graphs ≤ length (now flips)) × (getD (now flips) g 0 < 2)
         × (c .nodes + c .graphs ≤ length (now caught)) ⌝ }
-    ensures { λ _. ⌜ ((x : List ℕ) → Swept (now (card .entry)) c x (c .graphs) (now (values .entry)) → Has (value (now (card .entry)) c good x) (c .graphs) (now (flips .entry))
-        → Has (value (now (card .entry)) c good x) (c .graphs) (now (flips .exit))
-        × GraphWords (now (card .entry)) c g (caughtAt (now (card .entry)) c x) (now (caught .entry)) (now (caught .exit))) ⌝ }
+    ensures { λ _. ⌜ ((x : List ℕ) → Swept (now (card .entry)) c x (c .graphs) (now (values .entry)) → Caught (now (card .entry)) c x g (now (flips .entry)) (now (caught .entry))
+        → Caught (now (card .entry)) c x (g + 1) (now (flips .exit)) (now (caught .exit))) ⌝ }
 {
     let alters = critical::is_critical(card, c, tables, values, g, flips);
     catch_nodes(card, c, &tables[layout::FIRSTS], values, g, alters, caught);
@@ -137,50 +133,24 @@ fn catch_live(
     lists::put(caught, c.nodes + g, caught_whole(v, alters));
 }
 
-// Graph g, if the table says that it is to be looked at; if not, its words become 2.
-fn catch_graph(
-    card: &[u32],
-    c: Counts,
-    tables: &layout::Tables,
-    live: &[u32],
-    values: &[u32],
-    g: usize,
-    flips: &mut [u32],
-    caught: &mut [u32],
-)
-    requires { ⌜ Tabled (now card) c (now tables) × Bits c (now values) × (g < c .graphs) × (c .graphs ≤ length (now live)) × (c .graphs ≤ length (now flips))
-        × (getD (now flips) g 0 < 2) × (c .nodes + c .graphs ≤ length (now caught)) ⌝ }
-    ensures { λ _. ⌜ ((x : List ℕ) → Swept (now (card .entry)) c x (c .graphs) (now (values .entry))
-        → Caught (now (card .entry)) c x (now (live .entry)) g (now (flips .entry)) (now (caught .entry))
-        → Caught (now (card .entry)) c x (now (live .entry)) (g + 1) (now (flips .exit)) (now (caught .exit))) ⌝ }
-{
-    if lists::get(live, g) == 0 {
-        clear_nodes(&tables[layout::FIRSTS], g, caught);
-        lists::put(caught, c.nodes + g, 2);
-        return;
-    }
-    catch_live(card, c, tables, values, g, flips, caught);
-}
-
-// What one vector catches, at the graphs that the table says and at their nodes.
+// What one vector catches, at all graphs and their nodes.
 pub fn catch_vector(
     card: &[u32],
     c: Counts,
     tables: &layout::Tables,
     vector: &[u32],
-    live: &[u32],
     values: &mut [u32],
     flips: &mut [u32],
     caught: &mut [u32],
 )
-    requires { ⌜ Tabled (now card) c (now tables) × (width (c .inputs) ≤ length (now vector)) × Room c (now live) (now values) (now flips) (now caught) ⌝ }
-    ensures { λ _. ⌜ Told (now (card .entry)) c (now (vector .entry)) (now (live .entry)) (c .graphs) (now (caught .exit)) ⌝ }
+    requires { ⌜ Tabled (now card) c (now tables) × (width (c .inputs) ≤ length (now vector)) × Room c (now values) (now flips) (now caught) ⌝ }
+    ensures { λ _. ⌜ Told (now (card .entry)) c (now (vector .entry)) (c .graphs) (now (caught .exit)) ⌝ }
 {
     sweep::sweep(card, c, &tables[layout::FIRSTS], vector, values);
     change::restore(c, values, flips);
     let mut g = 0;
     while g < c.graphs {
-        catch_graph(card, c, tables, live, values, g, flips, caught);
+        catch_graph(card, c, tables, values, g, flips, caught);
         g += 1;
     }
 }

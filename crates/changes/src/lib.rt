@@ -130,8 +130,6 @@ pub fn work_out_critical(card: &[u32], c: Counts, vector: &[u32], nodes: &mut [u
     ensures { λ _. ⌜ now (nodes .exit) ≡ over (c .nodes) (λ j. choose (criticalAt (now (card .entry)) c (now (vector .entry)) j) 1 0) (now (nodes .entry)) ⌝ }
 {
     let tables = layout::make_tables(card, c);
-    let mut live = layout::graph_table();
-    lists::fill(&mut live, c.graphs, 1);
     let mut values = layout::place_table();
     let mut flips = layout::graph_table();
     let mut caught = layout::place_table();
@@ -140,7 +138,6 @@ pub fn work_out_critical(card: &[u32], c: Counts, vector: &[u32], nodes: &mut [u
         c,
         &tables,
         vector,
-        &live,
         &mut values,
         &mut flips,
         &mut caught,

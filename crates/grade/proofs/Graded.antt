@@ -1,31 +1,29 @@
--- A list of vectors, taken in block by block. For both gradings. Assumes nothing.
+-- A list of vectors, taken in block by block. Assumes nothing.
 use Prim.Native.Nat.{ℕ, zero, suc, _+_, _-_, _*_, _<_, _≤_}
-use mathlib.Core.Path.{_≡_, refl, sym, ap, _∙_}
+use mathlib.Core.Path.{_≡_, refl, sym, ap, ap₂, _∙_}
 use mathlib.Core.List.{List}
-use mathlib.Core.Bool.{Bool, true, false, not, _&&_}
+use mathlib.Core.Bool.{Bool}
 use native.Mathlib.Omega.{arith}
 use native.Mathlib.Decide.{decLt}
 use native.Mathlib.Nat.{add-zero, add-mul, mul-le-mul}
 use lib.ListN.{length, getD, take, drop}
 use lib.Seq.{ext-getD, getD-append-add, getD-drop}
-use lib.Dec.{ltb, eqb}
-use borrow.Author.Tests.{ne-eqb, lt-ltb, le-ltb}
-use Rattle.lists.specs.Counting.{choose, count, least}
+use lib.Dec.{ltb}
+use Rattle.lists.specs.Counting.{count, least}
 use Rattle.lists.specs.Tables.{tab, over, always}
-use Rattle.lists.proofs.Counting.{count-same, count-next}
+use Rattle.lists.proofs.Counting.{count-same, count-shifted}
 use Rattle.lists.proofs.Tables.{length-tab, over-at, length-over}
-use Rattle.lists.proofs.Tests.{differ}
 use Rattle.answers.specs.declared.Counts.{Counts}
 use Rattle.testvectors.specs.Vectors.{width, vectors}
 use Rattle.testvectors.specs.Parts.{Part}
 use Rattle.testvectors.proofs.Parts.{width-few, part-ends, part-of}
 use Rattle.detect.specs.Detects.{detects}
-use Rattle.detect.specs.Grading.{detectedBy, tally, mark, inGrade, marked}
-use Rattle.detect.proofs.Grading.{mark-kept, mark-new, tallied}
-use Rattle.running.specs.Running.{blank, after, found}
+use Rattle.detect.specs.Grading.{markBy, detectedBy, tally, mark, inGrade, marked}
+use Rattle.detect.proofs.Grading.{mark-next}
+use Rattle.running.specs.Running.{found}
 use Rattle.running.specs.declared.Running.{Running}
-use Rattle.block.specs.Block.{afterAll, UpdatedAll, Ends, Block, TookIn}
-use Rattle.grade.specs.Graded.{wordBy, graded, Graded, Listed}
+use Rattle.block.specs.Block.{markAfter, UpdatedAll, Ends, Block, TookIn}
+use Rattle.grade.specs.Graded.{Graded, Listed}
 
 -- a buffer beyond the words that were made
 over-rest : (f : ℕ → ℕ) (d : List ℕ) (n i : ℕ) → n ≤ i → getD (over n f d) i 0 ≡ getD d i 0
@@ -33,52 +31,32 @@ over-rest f d n i h =
     let e : i ≡ n + (i - n) = omega arith in
     rw e (ap (λ (m : ℕ). getD (over n f d) (m + (i - n)) 0) (sym (length-tab f n)) ∙ getD-append-add (tab f n) (drop n d) (i - n) 0 ∙ getD-drop n d (i - n) 0)
 
--- the word of a fault after no vector, and after one more
-word-first : (drops : Bool) (p : ℕ → Bool) → blank drops ≡ wordBy drops p 0
-unfolding count least
-word-first true p = refl
-word-first false p = refl
+-- a buffer whose first words are made by a rule, and the rest as it was
+over-is : (g : ℕ → ℕ) (xs ys : List ℕ) (n : ℕ) → n ≤ length xs → length ys ≡ length xs → ((i : ℕ) → i < n → getD ys i 0 ≡ g i) → ((i : ℕ) → n ≤ i → getD ys i 0 ≡ getD xs i 0)
+    → ys ≡ over n g xs
+over-is g xs ys n l e p q =
+    ext-getD 0 ys (over n g xs) (e ∙ sym (length-over g xs n l)) (λ i h.
+    elim (decLt i n) [
+      | yes m ↦ p i m ∙ sym (over-at g xs n i m)
+      | no m ↦ q i (omega arith) ∙ sym (over-rest g xs n i (omega arith))
+    ])
 
--- a mark is never the word of an unmarked fault
-never : (n : ℕ) → 0xE0000000 + n ≡ 0xC0000000 → ⊥
-never n e = omega arith
+-- a mark and a tally after n more vectors, where q tells of each what p tells of it by its number
+module _ (p q : ℕ → Bool) (t : ℕ) where
+  tally-after : (n : ℕ) → ((i : ℕ) → i < n → q i ≡ p (t + i)) → count p t + count q n ≡ count p (t + n)
+  unfolding count
+  tally-after n e = omega (arith, rw from at (count-shifted p q t 0 n (λ i h. rw from (sym (e i h)))))
+    where
+      from : {i : ℕ} → 0 + i ≡ i
+      from = omega arith
 
-marked-word : (b : Bool) (n : ℕ) → not (eqb (choose b (0xE0000000 + n) 0xC0000000) 0xC0000000) ≡ b
-marked-word true n = differ (0xE0000000 + n) 0xC0000000 (never n)
-marked-word false n = refl
-
-some-tally : (n : ℕ) → not (eqb n 0) ≡ ltb 0 n
-some-tally zero = refl
-some-tally (suc n) = differ (suc n) 0 (λ e. omega arith) ∙ sym (lt-ltb 0 (suc n) (omega arith))
-
-word-next : (drops : Bool) (p : ℕ → Bool) (t : ℕ) → after drops t (p t) (wordBy drops p t) ≡ wordBy drops p (suc t)
-word-next true p t = elim (decLt (least p t) t) [
-  | yes l ↦ rw (mark-kept p t l, lt-ltb (least p t) t l) (kept (p t))
-  | no n ↦
-      let l : t ≤ least p t = omega arith in
-      rw (mark-new p t l, le-ltb (least p t) t l) (new (p t))
-]
-  where
-    kept : (b : Bool) → after true t b (0xE0000000 + least p t) ≡ 0xE0000000 + least p t
-    kept true = rw (ne-eqb (0xE0000000 + least p t) 0xC0000000 (never (least p t)))
-    kept false = refl
-
-    new : (b : Bool) → after true t b 0xC0000000 ≡ choose b (0xE0000000 + t) 0xC0000000
-    new true = refl
-    new false = refl
-word-next false p t = rw (count-next p t) (counted (p t))
-  where
-    counted : (b : Bool) → after false t b (count p t) ≡ count p t + choose b 1 0
-    counted true = refl
-    counted false = omega arith
-
--- after n more, where q tells of each what p tells of it by its number
-words-next : (drops : Bool) (p q : ℕ → Bool) (t n : ℕ) → ((i : ℕ) → i < n → q i ≡ p (t + i)) → afterAll drops t q n (wordBy drops p t) ≡ wordBy drops p (t + n)
-unfolding afterAll
-words-next drops p q t zero e = rw add-zero
-words-next drops p q t (suc n) e =
-    let u : t + suc n ≡ suc (t + n) = omega arith in
-    rw (u, words-next drops p q t n (λ i h. e i (omega arith)), e n (omega arith)) (word-next drops p (t + n))
+  mark-after : (n : ℕ) → ((i : ℕ) → i < n → q i ≡ p (t + i)) → markAfter t q (count p t) (markBy p t) n ≡ markBy p (t + n)
+  unfolding markAfter
+  mark-after zero e = rw add-zero
+  mark-after (suc n) e =
+      let u : t + suc n ≡ suc (t + n) = omega arith in
+      let d : (i : ℕ) → i < n → q i ≡ p (t + i) = λ i h. e i (omega arith) in
+      rw (u, tally-after n d, mark-after n d, e n (omega arith)) (sym (mark-next p (t + n)))
 
 -- ONE BLOCK of a list, vectors t to e - 1: its words stand inside the list, and it is a part of the list
 module _ {ws : List ℕ} {c : Counts} {vs : List ℕ} {t n e w : ℕ} (y : Listed ws c vs) (q : w ≡ width (c .inputs)) (z : Ends t n e) (m : n ≤ vectors (c .inputs) vs) where
@@ -105,79 +83,71 @@ module _ {ws : List ℕ} {c : Counts} {vs : List ℕ} {t n e w : ℕ} (y : Liste
   pub block-of : {v : ℕ} {bs : List ℕ} → Part (c .inputs) vs t (e - t) bs → v ≡ t → Block c bs v
   block-of p v = record { some-input = y .some-input; whole = p .whole; few = omega (arith, p .number, y .few, z .inside, z .some) }
 
-module _ (drops : Bool) (ws : List ℕ) (c : Counts) (vs : List ℕ) where
+module _ (ws : List ℕ) (c : Counts) (vs : List ℕ) where
   module _ {t n e : ℕ} {bs : List ℕ} (p : Part (c .inputs) vs t (e - t) bs) (h : Ends t n e) where
-    module _ {live ys zs : List ℕ} {r q : Running} (v : r .vector ≡ t) (k : TookIn drops ws c bs live ys zs r q) where
+    same : (f i : ℕ) → i < e - t → detectedBy ws c bs f i ≡ detectedBy ws c vs f (t + i)
+    unfolding detectedBy
+    same f i l = ap (λ (x : List ℕ). detects ws c x f) (p .same i l)
+
+    module _ {ys us zs ts : List ℕ} {r q : Running} (v : r .vector ≡ t) (k : TookIn ws c bs ys us zs ts r q) where
       pub block-number : q .vector ≡ e
       block-number = omega (arith, k .vector, p .number, h .some)
 
-      -- it takes the buffer of the first t vectors to that of the first e
-      pub graded-block : {xs : List ℕ} → Graded drops ws c vs t xs ys → Graded drops ws c vs e xs zs
-      unfolding detectedBy
-      graded-block {xs} s = record {
-        word = λ f b.
-            let u : t + (e - t) ≡ e = omega (arith, h .some) in
-            w .word f b
-            ∙ ap (afterAll drops t (detectedBy ws c bs f) (e - t)) (s .word f b)
-            ∙ words-next drops (detectedBy ws c vs f) (detectedBy ws c bs f) t (e - t) (λ i l. ap (λ (x : List ℕ). detects ws c x f) (p .same i l))
-            ∙ ap (wordBy drops (detectedBy ws c vs f)) u;
-        rest = λ f b. w .rest f b ∙ s .rest f b;
+      -- it takes the marks and tallies of the first t vectors to those of the first e
+      pub graded-block : {xs os : List ℕ} → Graded ws c vs t xs os ys us → Graded ws c vs e xs os zs ts
+      graded-block s = record {
+        mark = λ f b.
+            w .mark f b
+            ∙ ap₂ (λ (n m : ℕ). markAfter t (detectedBy ws c bs f) n m (e - t)) (s .tally f b) (s .mark f b)
+            ∙ mark-after (detectedBy ws c vs f) (detectedBy ws c bs f) t (e - t) (same f)
+            ∙ ap (markBy (detectedBy ws c vs f)) all;
+        tally = λ f b.
+            w .tally f b
+            ∙ ap (λ (n : ℕ). n + count (detectedBy ws c bs f) (e - t)) (s .tally f b)
+            ∙ tally-after (detectedBy ws c vs f) (detectedBy ws c bs f) t (e - t) (same f)
+            ∙ ap (count (detectedBy ws c vs f)) all;
+        rest = λ f b.
+            let o = w .rest f b in
+            let q = s .rest f b in
+            (o .0 ∙ q .0, o .1 ∙ q .1);
       }
         where
-          w : UpdatedAll drops ws c bs t (e - t) ys zs
+          all : t + (e - t) ≡ e
+          all = omega (arith, h .some)
+
+          w : UpdatedAll ws c bs t (e - t) ys us zs ts
           w = rw (v, p .number) at (k .updated)
 
-  word-last : (f : ℕ) → wordBy drops (detectedBy ws c vs f) (vectors (c .inputs) vs) ≡ graded drops ws c vs f
-  unfolding tally mark
-  word-last f = by-kind drops
-    where
-      by-kind : (b : Bool) → wordBy b (detectedBy ws c vs f) (vectors (c .inputs) vs) ≡ graded b ws c vs f
-      by-kind true = refl
-      by-kind false = refl
+  module _ {xs us ys ts : List ℕ} (s : Graded ws c vs (vectors (c .inputs) vs) xs us ys ts) where
+    -- THE WHOLE LIST: each word of both buffers
+    pub marks-last : c .faults ≤ length xs → length ys ≡ length xs → ys ≡ over (c .faults) (mark ws c vs) xs
+    unfolding mark
+    marks-last l e = over-is (mark ws c vs) xs ys (c .faults) l e (λ f h. s .mark f h) (λ f h. s .rest f h .0)
 
-  -- THE WHOLE LIST: each word of the buffer
-  pub graded-last : {xs ys : List ℕ} → c .faults ≤ length xs → length ys ≡ length xs → Graded drops ws c vs (vectors (c .inputs) vs) xs ys
-      → ys ≡ over (c .faults) (graded drops ws c vs) xs
-  graded-last {xs} {ys} l e s =
-      ext-getD 0 ys (over (c .faults) (graded drops ws c vs) xs) (e ∙ sym (length-over (graded drops ws c vs) xs (c .faults) l)) (λ i h.
-      elim (decLt i (c .faults)) [
-        | yes m ↦ s .word i m ∙ word-last i ∙ sym (over-at (graded drops ws c vs) xs (c .faults) i m)
-        | no n ↦ s .rest i (omega arith) ∙ sym (over-rest (graded drops ws c vs) xs (c .faults) i (omega arith))
-      ])
+    pub tallies-last : c .faults ≤ length us → length ts ≡ length us → ts ≡ over (c .faults) (tally ws c vs) us
+    unfolding tally
+    tallies-last l e = over-is (tally ws c vs) us ts (c .faults) l e (λ f h. s .tally f h) (λ f h. s .rest f h .1)
 
-  -- and the marked count
-  some-word : (f : ℕ) → not (eqb (graded drops ws c vs f) (blank drops)) ≡ inGrade ws c vs f && ltb 0 (tally ws c vs f)
-  unfolding inGrade mark
-  some-word f = by-kind drops
-    where
-      by-kind : (b : Bool) → not (eqb (graded b ws c vs f) (blank b)) ≡ ltb 0 (tally ws c vs f)
-      by-kind true = marked-word (ltb (least (detectedBy ws c vs f) (vectors (c .inputs) vs)) (vectors (c .inputs) vs)) (least (detectedBy ws c vs f) (vectors (c .inputs) vs)) ∙ tallied ws c vs f
-      by-kind false = some-tally (tally ws c vs f)
+    -- and the marked count
+    pub marked-last : found ts (c .faults) ≡ marked ws c vs
+    unfolding found marked inGrade tally
+    marked-last = count-same _ _ (c .faults) (λ f h. ap (λ (r : ℕ). ltb 0 r) (s .tally f h))
 
-  pub marked-last : {xs ys : List ℕ} → Graded drops ws c vs (vectors (c .inputs) vs) xs ys → found drops ys (c .faults) ≡ marked ws c vs
-  unfolding found marked
-  marked-last {xs} {ys} s = count-same _ _ (c .faults) (λ f h. ap (λ (r : ℕ). not (eqb r (blank drops))) (s .word f h ∙ word-last f) ∙ some-word f)
-
--- a buffer made twice
-over-twice : (f g : ℕ → ℕ) (d : List ℕ) (n : ℕ) → n ≤ length d → over n f (over n g d) ≡ over n f d
-over-twice f g d n h =
-    ext-getD 0 (over n f (over n g d)) (over n f d)
-    (length-over f (over n g d) n (rw (length-over g d n h) h) ∙ length-over g d n h ∙ sym (length-over f d n h)) (λ i l.
-    elim (decLt i n) [
-      | yes m ↦ over-at f (over n g d) n i m ∙ sym (over-at f d n i m)
-      | no m ↦
-          over-rest f (over n g d) n i (omega arith) ∙ over-rest g d n i (omega arith) ∙ sym (over-rest f d n i (omega arith))
-    ])
-
--- a buffer of blank words is that of no vector
-pub graded-none : {drops : Bool} {ws : List ℕ} {c : Counts} {vs ys : List ℕ} (xs : List ℕ) → ys ≡ over (c .faults) (always (blank drops)) xs → Graded drops ws c vs 0 ys ys
-graded-none {drops} {ws} {c} {vs} {ys} xs e = record {
-  word = λ f h. rw e (over-at (always (blank drops)) xs (c .faults) f h ∙ word-first drops (detectedBy ws c vs f));
-  rest = λ f h. refl;
+-- before the first vector no fault is marked, and every tally is 0
+pub graded-none : {ws : List ℕ} {c : Counts} {vs ys ts : List ℕ} (xs us : List ℕ) → ys ≡ over (c .faults) (always 0xC0000000) xs → ts ≡ over (c .faults) (always 0) us
+    → Graded ws c vs 0 ys ts ys ts
+unfolding count least
+graded-none {ws} {c} {vs} {ys} {ts} xs us e z = record {
+  mark = λ f h. rw e (over-at (always 0xC0000000) xs (c .faults) f h);
+  tally = λ f h. rw z (over-at (always 0) us (c .faults) f h);
+  rest = λ f h. (refl, refl);
 }
 
--- and a list graded over it is that of the buffer that was lent
-pub graded-over : (drops : Bool) (ws : List ℕ) (c : Counts) (vs : List ℕ) {ys zs : List ℕ} (xs : List ℕ) → c .faults ≤ length xs
-    → ys ≡ over (c .faults) (always (blank drops)) xs → zs ≡ over (c .faults) (graded drops ws c vs) ys → zs ≡ over (c .faults) (graded drops ws c vs) xs
-graded-over drops ws c vs xs h e q =
-    q ∙ ap (over (c .faults) (graded drops ws c vs)) e ∙ over-twice (graded drops ws c vs) (always (blank drops)) xs (c .faults) h
+-- and what is written over that is written over the buffer that was lent
+pub over-begun : (v : ℕ) (g : ℕ → ℕ) (n : ℕ) {ys zs : List ℕ} (xs : List ℕ) → n ≤ length xs → ys ≡ over n (always v) xs → zs ≡ over n g ys → zs ≡ over n g xs
+over-begun v g n {ys} {zs} xs h e q =
+    let k : length ys ≡ length xs = rw e (length-over (always v) xs n h) in
+    let m : length zs ≡ length ys = rw q (length-over g ys n (omega (arith, k))) in
+    over-is g xs zs n h (m ∙ k) (λ i l. rw q (over-at g ys n i l)) (λ i l.
+    let o : getD zs i 0 ≡ getD ys i 0 = rw q (over-rest g ys n i l) in
+    o ∙ rw e (over-rest (always v) xs n i l))

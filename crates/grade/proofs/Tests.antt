@@ -20,6 +20,8 @@ listed {ws} {xs} {c} a e =
     record { shape = a .shape; some-input = a .some-input; whole = l .0; few = l .1 }
 
 -- its room
-pub grade-room : (room : ℕ) (c : Counts) → firstBroken (gradeTests room c) ≡ Sound → c .faults ≤ room
+pub grade-room : (marks tallies : ℕ) (c : Counts) → firstBroken (gradeTests marks tallies c) ≡ Sound → (c .faults ≤ marks) × (c .faults ≤ tallies)
 unfolding gradeTests
-grade-room room c e = ltb-false room (c .faults) (all-passed (gradeTests room c) e .0)
+grade-room marks tallies c e =
+    let p = all-passed (gradeTests marks tallies c) e in
+    (ltb-false marks (c .faults) (p .0), ltb-false tallies (c .faults) (p .1 .0))

@@ -4,10 +4,10 @@ ghost use Prim.Native.Nat.{_≤_};
 ghost use lib.ListN.{length};
 ghost use Rattle.lists.specs.Tables.{over};
 ghost use Rattle.word32.specs.Bytes.{wordsOf};
-ghost use Rattle.detect.specs.Grading.{marked};
+ghost use Rattle.detect.specs.Grading.{mark, tally, marked};
 ghost use Rattle.layout.specs.Tables.{Tabled};
-ghost use Rattle.block.specs.Block.{Standing};
-ghost use Rattle.grade.specs.Graded.{Listed, graded, Graded};
+ghost use Rattle.running.specs.Running.{Counted};
+ghost use Rattle.grade.specs.Graded.{Listed, Graded};
 use answers::Counts;
 use layout::Tables;
 use running::Running;
@@ -22,18 +22,18 @@ fn block_room() -> [u32; 4096]
 // Takes in a whole list, block by block, from a result that has taken in none.
 fn take_list(
     start: Running,
-    drops: bool,
     card: &[u32],
     c: Counts,
     tables: &Tables,
     list: &[u8],
-    live: &mut [u32],
     marks: &mut [u32],
+    tallies: &mut [u32],
 ) -> usize
-    requires { ⌜ Listed (now card) c (wordsOf (now list)) × Tabled (now card) c (now tables) × (c .graphs ≤ length (now live))
-        × (start .vector ≡ 0) × Standing drops (now card) c (now live) (now marks) start × Graded drops (now card) c (wordsOf (now list)) 0 (now marks) (now marks) ⌝ }
+    requires { ⌜ Listed (now card) c (wordsOf (now list)) × Tabled (now card) c (now tables) × (start .vector ≡ 0)
+        × Counted (c .faults) (now marks) (now tallies) start × Graded (now card) c (wordsOf (now list)) 0 (now marks) (now tallies) (now marks) (now tallies) ⌝ }
     ensures { λ r. ⌜ (r ≡ marked (now (card .entry)) c (wordsOf (now (list .entry))))
-        × (now (marks .exit) ≡ over (c .faults) (graded drops (now (card .entry)) c (wordsOf (now (list .entry)))) (now (marks .entry))) ⌝ }
+        × (now (marks .exit) ≡ over (c .faults) (mark (now (card .entry)) c (wordsOf (now (list .entry)))) (now (marks .entry)))
+        × (now (tallies .exit) ≡ over (c .faults) (tally (now (card .entry)) c (wordsOf (now (list .entry)))) (now (tallies .entry))) ⌝ }
 {
     let mut buffer = block_room();
     let w = testvectors::width(c.inputs);
@@ -43,20 +43,26 @@ fn take_list(
     while t < n {
         let end = block::block_end(t, n);
         let held = word32::words_of(&list[t * w * 4..end * w * 4], &mut buffer);
-        r = block::take_block(r, drops, card, c, tables, &buffer[..held], live, marks);
+        r = block::take_block(r, card, c, tables, &buffer[..held], marks, tallies);
         t = end;
     }
     r.marked
 }
 
 // Grades an accepted card by a list of vectors in bytes: the words of the faults, and how many are marked.
-pub fn grade_list(drops: bool, card: &[u32], c: Counts, list: &[u8], marks: &mut [u32]) -> usize
-    requires { ⌜ Listed (now card) c (wordsOf (now list)) × (c .faults ≤ length (now marks)) ⌝ }
+pub fn grade_list(
+    card: &[u32],
+    c: Counts,
+    list: &[u8],
+    marks: &mut [u32],
+    tallies: &mut [u32],
+) -> usize
+    requires { ⌜ Listed (now card) c (wordsOf (now list)) × (c .faults ≤ length (now marks)) × (c .faults ≤ length (now tallies)) ⌝ }
     ensures { λ r. ⌜ (r ≡ marked (now (card .entry)) c (wordsOf (now (list .entry))))
-        × (now (marks .exit) ≡ over (c .faults) (graded drops (now (card .entry)) c (wordsOf (now (list .entry)))) (now (marks .entry))) ⌝ }
+        × (now (marks .exit) ≡ over (c .faults) (mark (now (card .entry)) c (wordsOf (now (list .entry)))) (now (marks .entry)))
+        × (now (tallies .exit) ≡ over (c .faults) (tally (now (card .entry)) c (wordsOf (now (list .entry)))) (now (tallies .entry))) ⌝ }
 {
     let tables = layout::make_tables(card, c);
-    let mut live = layout::graph_table();
-    let start = block::begin(drops, c, &mut live, marks);
-    take_list(start, drops, card, c, &tables, list, &mut live, marks)
+    let start = block::begin(c, marks, tallies);
+    take_list(start, card, c, &tables, list, marks, tallies)
 }

@@ -1,4 +1,4 @@
--- The cases of the text, and what the gradings tell of it. Assumes nothing.
+-- The cases of the text, and what the grading tells of it. Assumes nothing.
 use Prim.Native.Nat.{ℕ, suc, zero, _+_, _-_, _*_, _/_, _%_, _<_, _≤_}
 use mathlib.Core.Path.{_≡_, refl, sym, ap, ap₂, _∙_}
 use mathlib.Core.List.{List, [], _++_}
@@ -24,10 +24,10 @@ use Rattle.answers.proofs.Answers.{same-reply}
 use Rattle.form.specs.Check.{checked}
 use Rattle.answers.specs.Tests.{andThen}
 use Rattle.form.proofs.Checked.{check-accepts}
-use Rattle.answers.specs.Calls.{callTests, replied, written, doneBy}
+use Rattle.answers.specs.Calls.{replied, written, doneBy}
 use Rattle.testvectors.specs.Vectors.{listVerdict}
 use Rattle.detect.specs.Grading.{mark, tally, marked}
-use Rattle.grade.specs.Calls.{gradeTests, gradeReply, gradeTold, marksBuffer, talliesBuffer}
+use Rattle.grade.specs.Calls.{gradeTests, allTests, gradeReply, gradeTold, marksBuffer, talliesBuffer}
 use Rattle.report.specs.Text.{shortLine, longLine, refusedLine, faultLine, faultLines, gradingText}
 use Rattle.report.specs.Report.{unlessBroken, gradedText, wordCount, cardBytes, vectorBytes, textOf, bytesWanted}
 
@@ -116,21 +116,21 @@ module _ (ws xs : List ℕ) where
   unfolding gradedText
   graded-refused e = rw e
 
-  -- either grading's reply goes by the list's verdict alone where its buffer has room
-  module _ {c : Counts} (e : checked ws ≡ answer.Accepted c) (b : List ℕ) (room : c .faults ≤ length b) where
-    tests-are : callTests (listVerdict (c .inputs) xs) (gradeTests (length b) c) ≡ listVerdict (c .inputs) xs
+  -- the grading's reply goes by the list's verdict alone where its buffers have room
+  module _ {c : Counts} (e : checked ws ≡ answer.Accepted c) (b d : List ℕ) (room : c .faults ≤ length b) (more : c .faults ≤ length d) where
+    tests-are : allTests xs b d c ≡ listVerdict (c .inputs) xs
     unfolding gradeTests
-    tests-are = rw (le-ltb _ _ room) (then-nothing (listVerdict (c .inputs) xs))
+    tests-are = rw (le-ltb _ _ room, le-ltb _ _ more) (then-nothing (listVerdict (c .inputs) xs))
       where
         then-nothing : (v : Verdict) → andThen v Sound ≡ v
         then-nothing Sound = refl
         then-nothing (Broken r p) = refl
 
-    reply-is : (a : Reply) → replyTold a ≡ gradeTold ws xs b → doneBy (listVerdict (c .inputs) xs) (marked ws c xs) ≡ a
+    reply-is : (a : Reply) → replyTold a ≡ gradeTold ws xs b d → doneBy (listVerdict (c .inputs) xs) (marked ws c xs) ≡ a
     unfolding replied
-    reply-is a t = rw (same-reply a (gradeReply ws xs b) t, e, tests-are)
+    reply-is a t = rw (same-reply a (gradeReply ws xs b d) t, e, tests-are)
 
-    pub list-refused : {a : Reply} {r : Rule} {p : ℕ} → replyTold a ≡ gradeTold ws xs b → a ≡ reply.Refused r p
+    pub list-refused : {a : Reply} {r : Rule} {p : ℕ} → replyTold a ≡ gradeTold ws xs b d → a ≡ reply.Refused r p
         → gradedText ws xs ≡ refusedLine (numberOf r) p
     unfolding gradedText
     list-refused {a} {r} {p} t q = rw e (go (listVerdict (c .inputs) xs) (reply-is a t ∙ q))
@@ -140,7 +140,7 @@ module _ (ws xs : List ℕ) where
         go Sound z = let f : _≡_ {A = ℕ} 0 1 = cc in absurd (omega arith)
         go (Broken r′ p′) z = let f : r′ ≡ r = cc in let g : p′ ≡ p = cc in rw (f, g)
 
-    list-sound : {a : Reply} {n : ℕ} → replyTold a ≡ gradeTold ws xs b → a ≡ reply.Done n
+    list-sound : {a : Reply} {n : ℕ} → replyTold a ≡ gradeTold ws xs b d → a ≡ reply.Done n
         → (listVerdict (c .inputs) xs ≡ Sound) × (n ≡ marked ws c xs)
     list-sound {a} {n} t q = go (listVerdict (c .inputs) xs) (reply-is a t ∙ q)
       where
@@ -149,11 +149,11 @@ module _ (ws xs : List ℕ) where
         go (Broken r p) z = let f : _≡_ {A = ℕ} 0 1 = cc in absurd (omega arith)
 
     module _ (v : listVerdict (c .inputs) xs ≡ Sound) where
-      pub marks-are : marksBuffer ws xs b ≡ over (c .faults) (mark ws c xs) b
+      pub marks-are : marksBuffer ws xs b d ≡ over (c .faults) (mark ws c xs) b
       unfolding written
       marks-are = rw (e, tests-are, v)
 
-      pub tallies-are : talliesBuffer ws xs b ≡ over (c .faults) (tally ws c xs) b
+      pub tallies-are : talliesBuffer ws xs b d ≡ over (c .faults) (tally ws c xs) d
       unfolding written
       tallies-are = rw (e, tests-are, v)
 
@@ -184,19 +184,19 @@ pub lines-next : (m t : ℕ → ℕ) (f : ℕ) → faultLines m t f ++ faultLine
 unfolding faultLines
 lines-next m t f = rw add-one
 
--- the whole of an accepted grading, from what the two gradings reply and leave
+-- the whole of an accepted grading, from what the grading replies and leaves
 pub few-faults : (ws : List ℕ) {c : Counts} → checked ws ≡ answer.Accepted c → c .faults ≤ 10240
 few-faults ws {c} e = let s = check-accepts ws 0 c e .shape in omega (arith, s .all-faults, s .few-nodes, s .few-graphs)
 
 pub graded-told : (ws xs : List ℕ) {c : Counts} → checked ws ≡ answer.Accepted c → (b d ms ts : List ℕ) {a : Reply} (n : ℕ)
-    → c .faults ≤ length b → c .faults ≤ length d → replyTold a ≡ gradeTold ws xs b → a ≡ reply.Done n
-    → ms ≡ marksBuffer ws xs b → ts ≡ talliesBuffer ws xs d → gradedText ws xs ≡ gradingText c (λ f. getD ms f 0) (λ f. getD ts f 0) n
+    → c .faults ≤ length b → c .faults ≤ length d → replyTold a ≡ gradeTold ws xs b d → a ≡ reply.Done n
+    → ms ≡ marksBuffer ws xs b d → ts ≡ talliesBuffer ws xs b d → gradedText ws xs ≡ gradingText c (λ f. getD ms f 0) (λ f. getD ts f 0) n
 graded-told ws xs {c} e b d ms ts n p q told r m t =
-    let (v, z) = list-sound ws xs e b p told r in
+    let (v, z) = list-sound ws xs e b d p q told r in
     graded-done ws xs e v
     ∙ rw (← z) (grading-same c (mark ws c xs) (λ f. getD ms f 0) (tally ws c xs) (λ f. getD ts f 0) n
-    (λ f l. sym (rw (m ∙ marks-are ws xs e b p v) (over-at (mark ws c xs) b (c .faults) f l)))
-    (λ f l. sym (rw (t ∙ tallies-are ws xs e d q v) (over-at (tally ws c xs) d (c .faults) f l))))
+    (λ f l. sym (rw (m ∙ marks-are ws xs e b d p q v) (over-at (mark ws c xs) b (c .faults) f l)))
+    (λ f l. sym (rw (t ∙ tallies-are ws xs e b d p q v) (over-at (tally ws c xs) d (c .faults) f l))))
 
 -- the words of some bytes, as a buffer's front
 pub words-front : (b d out : List ℕ) (n : ℕ) → n ≡ length b / 4 → out ≡ over (length b / 4) (wordAt b) d → take n out ≡ wordsOf b

@@ -160,13 +160,10 @@ fn report_accepted(card: &[u32], c: Counts, vectors: &[u32], out: &mut [u8]) -> 
     ensures { λ r. ⌜ Puts (now (out .entry)) 0 (gradedText (now (card .entry)) (now (vectors .entry))) r (now (out .exit)) ⌝ }
 {
     let mut marks = layout::fault_table();
-    match grade::first_marking(card, vectors, &mut marks) {
+    let mut tallies = layout::fault_table();
+    match grade::grade(card, vectors, &mut marks, &mut tallies) {
         Reply::Refused(rule, position) => put_refused(out, answers::rule_number(rule), position),
-        Reply::Done(marked) => {
-            let mut tallies = layout::fault_table();
-            grade::tally(card, vectors, &mut tallies);
-            put_grading(out, c, &marks, &tallies, marked)
-        }
+        Reply::Done(marked) => put_grading(out, c, &marks, &tallies, marked),
     }
 }
 

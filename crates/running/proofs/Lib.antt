@@ -1,2 +1,2 @@
--- The words of faults and one vector taken in, each law for both gradings.
+-- The marks and tallies of faults, and one vector taken in.
 pub mod Fold

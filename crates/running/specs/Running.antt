@@ -1,54 +1,49 @@
--- The running result of a grading and its buffer of marks, with no card in it. No contract of a public call cites these. Assumes nothing.
+-- The running result of a grading and its two buffers, marks and tallies, with no card in it. No contract of a public call cites these. Assumes nothing.
 use Prim.Native.Nat.{ℕ, _+_, _*_, _<_, _≤_}
 use mathlib.Core.Path.{_≡_}
 use mathlib.Core.List.{List}
-use mathlib.Core.Bool.{Bool, true, false, not, _&&_}
+use mathlib.Core.Bool.{Bool, true, false, _&&_}
 use lib.ListN.{length, getD, set}
 use lib.Dec.{ltb, eqb}
 use Rattle.lists.specs.Counting.{choose, count}
 use Rattle.running.specs.declared.Running.{Running}
 
--- Both gradings are one, by whether a fault is dropped once marked. The word of a fault that no vector has caught yet:
-abbrev pub blank : Bool → ℕ
-blank true = 0xC0000000
-blank false = 0
+-- a fault's mark and tally after vector t, where b tells whether the vector catches it; before, they were m and n. The first catch alone makes the mark.
+abbrev pub nextMark : ℕ → Bool → ℕ → ℕ → ℕ
+nextMark t b n m = choose (b && eqb n 0) (0xE0000000 + t) m
 
--- the word of a fault that vector t catches, where it was w before
-abbrev pub caughtWord : Bool → ℕ → ℕ → ℕ
-caughtWord true t w = choose (eqb w 0xC0000000) (0xE0000000 + t) w
-caughtWord false t w = w + 1
+abbrev pub nextTally : Bool → ℕ → ℕ
+nextTally b n = n + choose b 1 0
 
--- the word after vector t, where b tells whether it catches the fault
-abbrev pub after : Bool → ℕ → Bool → ℕ → ℕ
-after drops t true w = caughtWord drops t w
-after drops t false w = w
-
--- a buffer with w stored for fault f, where one is to be
+-- a buffer with w stored for fault f, where it is to be
 abbrev pub putIf : Bool → List ℕ → ℕ → ℕ → List ℕ
 putIf true xs f w = set xs f w
 putIf false xs f w = xs
 
--- how many of the first n words are no longer blank
-unfoldable pub found : Bool → List ℕ → ℕ → ℕ
+-- how many of the first n faults have a tally over 0
+unfoldable pub found : List ℕ → ℕ → ℕ
 unfolding count
-found drops xs n = count (λ f. not (eqb (getD xs f 0) (blank drops))) n
+found us n = count (λ f. ltb 0 (getD us f 0)) n
 
--- place p taken in, where its word is d: the words of the buffer, and the count of those that are not blank
-pub record Put (drops : Bool) (t p d : ℕ) (xs : List ℕ) (m : ℕ) (ys : List ℕ) (r : ℕ) : Type 0 where
-  pub number : r ≡ m + choose (ltb d 2 && eqb (getD xs (2 * p + d) 0) (blank drops)) 1 0
-  pub words : ys ≡ putIf (ltb d 2) xs (2 * p + d) (caughtWord drops t (getD xs (2 * p + d) 0))
+-- place p taken in, where its word is d: marks xs become ys, tallies us become vs, and r is the count of faults with a tally, where it was m
+pub record Put (t p d : ℕ) (xs us : List ℕ) (m : ℕ) (ys vs : List ℕ) (r : ℕ) : Type 0 where
+  pub number : r ≡ m + choose (ltb d 2 && eqb (getD us (2 * p + d) 0) 0) 1 0
+  pub marks : ys ≡ putIf (ltb d 2 && eqb (getD us (2 * p + d) 0) 0) xs (2 * p + d) (0xE0000000 + t)
+  pub tallies : vs ≡ putIf (ltb d 2) us (2 * p + d) (getD us (2 * p + d) 0 + 1)
 
--- the words of the first n places' faults after vector t, from the words cs of the places; the others as they were
-pub record Folded (drops : Bool) (t n : ℕ) (cs xs ys : List ℕ) : Type 0 where
-  pub word : (p d : ℕ) → p < n → d < 2 → getD ys (2 * p + d) 0 ≡ after drops t (eqb (getD cs p 0) d) (getD xs (2 * p + d) 0)
-  pub rest : (f : ℕ) → 2 * n ≤ f → getD ys f 0 ≡ getD xs f 0
+-- the marks and tallies of the first n places' faults after vector t, from the words cs of the places; the others as they were
+pub record Folded (t n : ℕ) (cs xs us ys vs : List ℕ) : Type 0 where
+  pub mark : (p d : ℕ) → p < n → d < 2 → getD ys (2 * p + d) 0 ≡ nextMark t (eqb (getD cs p 0) d) (getD us (2 * p + d) 0) (getD xs (2 * p + d) 0)
+  pub tally : (p d : ℕ) → p < n → d < 2 → getD vs (2 * p + d) 0 ≡ nextTally (eqb (getD cs p 0) d) (getD us (2 * p + d) 0)
+  pub rest : (f : ℕ) → 2 * n ≤ f → (getD ys f 0 ≡ getD xs f 0) × (getD vs f 0 ≡ getD us f 0)
 
--- no tally of the words from `low` up to `high` is over t
-pub record Small (drops : Bool) (t low high : ℕ) (xs : List ℕ) : Type 0 where
-  pub word : drops ≡ false → (f : ℕ) → low ≤ f → f < high → getD xs f 0 ≤ t
+-- no tally from `low` up to `high` is over t
+pub record Small (t low high : ℕ) (us : List ℕ) : Type 0 where
+  pub word : (f : ℕ) → low ≤ f → f < high → getD us f 0 ≤ t
 
--- the running result counts the first n words of a buffer: how many are no longer blank, and no tally is over the number of vectors taken in
-pub record Counted (drops : Bool) (n : ℕ) (xs : List ℕ) (r : Running) : Type 0 where
-  pub long : n ≤ length xs
-  pub number : r .marked ≡ found drops xs n
-  pub small : Small drops (r .vector) 0 n xs
+-- the running result counts the first n faults of two buffers: how many have a tally, and no tally is over the number of vectors taken in
+pub record Counted (n : ℕ) (xs us : List ℕ) (r : Running) : Type 0 where
+  pub marks-long : n ≤ length xs
+  pub tallies-long : n ≤ length us
+  pub number : r .marked ≡ found us n
+  pub small : Small (r .vector) 0 n us

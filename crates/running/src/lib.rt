@@ -1,68 +1,54 @@
-// The running result of a grading: it takes in what one vector catches at a time, for both gradings. No card is in it: the words of the faults lie in a
-// lent buffer, two for each place.
+// The running result of a grading: it takes in what one vector catches at a time. No card is in it: the marks and the tallies of the faults lie in two
+// lent buffers, two words of each for each place.
 ghost use mathlib.Core.Path.{_≡_};
-ghost use mathlib.Core.Bool.{false};
 ghost use Prim.Native.Nat.{_+_, _*_, _≤_, _<_};
 ghost use lib.ListN.{length};
-ghost use Rattle.running.specs.Running.{blank, caughtWord, Put, found, Folded, Small, Counted};
+ghost use Rattle.running.specs.Running.{Put, found, Folded, Small, Counted};
 
-// The word of a fault that no vector has caught yet.
-pub fn blank(drops: bool) -> u32
-    ensures { λ r. ⌜ r ≡ blank drops ⌝ }
-{
-    if drops {
-        return 0xC000_0000;
-    }
-    0
-}
-
-// The word of a fault that vector t catches. First-marking keeps the first mark; tallying counts.
-fn caught_word(drops: bool, t: u32, w: u32) -> u32
-    requires { ⌜ (t < 65535) × (drops ≡ false → w ≤ t) ⌝ }
-    ensures { λ r. ⌜ r ≡ caughtWord drops t w ⌝ }
-{
-    if !drops {
-        return w + 1;
-    }
-    if w == 0xC000_0000 {
-        return 0xE000_0000 + t;
-    }
-    w
-}
-
-// Place p, where the fault stuck at d is caught, or none if d is 2: its word, and the count of words that are not blank.
-fn take_place(drops: bool, t: u32, p: usize, d: u32, marked: usize, marks: &mut [u32]) -> usize
-    requires { ⌜ (t < 65535) × (marked < 65536) × (p < 5120) × (2 * p + 1 < length (now marks)) × Small drops t (2 * p) (2 * p + 2) (now marks) ⌝ }
-    ensures { λ r. ⌜ Put drops t p d (now (marks .entry)) marked (now (marks .exit)) r ⌝ }
+// Place p, where the fault stuck at d is caught, or none if d is 2: its tally, its mark at the first catch, and the count of faults with a tally.
+fn take_place(
+    t: u32,
+    p: usize,
+    d: u32,
+    marked: usize,
+    marks: &mut [u32],
+    tallies: &mut [u32],
+) -> usize
+    requires { ⌜ (t < 65535) × (marked < 65536) × (p < 5120) × (2 * p + 1 < length (now marks)) × (2 * p + 1 < length (now tallies))
+        × Small t (2 * p) (2 * p + 2) (now tallies) ⌝ }
+    ensures { λ r. ⌜ Put t p d (now (marks .entry)) (now (tallies .entry)) marked (now (marks .exit)) (now (tallies .exit)) r ⌝ }
 {
     if 2 <= d {
         return marked;
     }
     let f = 2 * p + d as usize;
-    let w = lists::get(marks, f);
-    lists::put(marks, f, caught_word(drops, t, w));
-    if w == blank(drops) {
-        return marked + 1;
+    let n = lists::get(tallies, f);
+    lists::put(tallies, f, n + 1);
+    if 0 < n {
+        return marked;
     }
-    marked
+    lists::put(marks, f, 0xE000_0000 + t);
+    marked + 1
 }
 
 // All n places.
 fn take_places(
-    drops: bool,
     t: u32,
     n: usize,
     caught: &[u32],
     marked: usize,
     marks: &mut [u32],
+    tallies: &mut [u32],
 ) -> usize
-    requires { ⌜ (t < 65535) × (n ≤ 5120) × (n ≤ length (now caught)) × (2 * n ≤ length (now marks)) × (marked ≡ found drops (now marks) (2 * n)) × Small drops t 0 (2 * n) (now marks) ⌝ }
-    ensures { λ r. ⌜ (r ≡ found drops (now (marks .exit)) (2 * n)) × Folded drops t n (now (caught .entry)) (now (marks .entry)) (now (marks .exit)) ⌝ }
+    requires { ⌜ (t < 65535) × (n ≤ 5120) × (n ≤ length (now caught)) × (2 * n ≤ length (now marks)) × (2 * n ≤ length (now tallies))
+        × (marked ≡ found (now tallies) (2 * n)) × Small t 0 (2 * n) (now tallies) ⌝ }
+    ensures { λ r. ⌜ (r ≡ found (now (tallies .exit)) (2 * n))
+        × Folded t n (now (caught .entry)) (now (marks .entry)) (now (tallies .entry)) (now (marks .exit)) (now (tallies .exit)) ⌝ }
 {
     let mut m = marked;
     let mut p = 0;
     while p < n {
-        m = take_place(drops, t, p, lists::get(caught, p), m, marks);
+        m = take_place(t, p, lists::get(caught, p), m, marks, tallies);
         p += 1;
     }
     m
@@ -85,14 +71,21 @@ impl Running {
         }
     }
 
-    // Takes in what one vector catches at n places and hands the next result back. What it promises holds of any buffer of marks that the result counts.
-    pub fn take_in(self, drops: bool, n: usize, caught: &[u32], marks: &mut [u32]) -> Running
-        requires { ⌜ (self .vector < 65535) × (n ≤ 5120) × (n ≤ length (now caught)) × Counted drops (2 * n) (now marks) self ⌝ }
-        ensures { λ r. ⌜ (r .vector ≡ self .vector + 1) × Folded drops (self .vector) n (now (caught .entry)) (now (marks .entry)) (now (marks .exit))
-            × Counted drops (2 * n) (now (marks .exit)) r ⌝ }
+    // Takes in what one vector catches at n places and hands the next result back. What it promises holds of any two buffers that the result counts.
+    pub fn take_in(
+        self,
+        n: usize,
+        caught: &[u32],
+        marks: &mut [u32],
+        tallies: &mut [u32],
+    ) -> Running
+        requires { ⌜ (self .vector < 65535) × (n ≤ 5120) × (n ≤ length (now caught)) × Counted (2 * n) (now marks) (now tallies) self ⌝ }
+        ensures { λ r. ⌜ (r .vector ≡ self .vector + 1)
+            × Folded (self .vector) n (now (caught .entry)) (now (marks .entry)) (now (tallies .entry)) (now (marks .exit)) (now (tallies .exit))
+            × Counted (2 * n) (now (marks .exit)) (now (tallies .exit)) r ⌝ }
     {
         let t = self.vector;
-        let marked = take_places(drops, t, n, caught, self.marked, marks);
+        let marked = take_places(t, n, caught, self.marked, marks, tallies);
         Running {
             vector: t + 1,
             marked: marked,

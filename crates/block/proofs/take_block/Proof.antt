@@ -1,11 +1,11 @@
 -- `block::take_block` meets its contract. Assumes nothing.
--- The invariant: the vectors of the block below i are taken in, and the result stands.
+-- The invariant: the vectors of the block below i are taken in, and the result counts both buffers.
 use Prim.Native.Nat.{_+_, _-_, _≤_}
-use Rattle.block.proofs.Dropped.{faults-inside}
-use Rattle.block.proofs.Updated.{updated, all-places, standing-next, updated-none, updated-more}
+use Rattle.block.proofs.Updated.{updated, all-places, updated-none, updated-more}
 use Rattle.block.proofs.take_block.Statement.{statement}
 use Rattle.block.proofs.take_block.Tie as tie
-use Rattle.block.specs.Block.{Standing, UpdatedAll}
+use Rattle.block.specs.Block.{UpdatedAll}
+use Rattle.running.specs.Running.{Counted}
 use Rattle.testvectors.proofs.Laws.{vector-inside, vector-width}
 use Rattle.testvectors.specs.Vectors.{vectors}
 use borrow.Author.Needs.{needs}
@@ -14,12 +14,12 @@ use mathlib.Core.Path.{_≡_, refl}
 use native.Mathlib.Omega.{arith}
 
 abbrev Inv-loop : tie.InvT-loop
-Inv-loop drops card c tables vectors live₀ marks₀ values₀ flips₀ caught₀ n all q₀ i₀ live marks values flips caught q i =
-    (i ≤ n) × (length live ≡ length live₀) × (length marks ≡ length marks₀) × (5120 ≡ length values) × (1024 ≡ length flips) × (5120 ≡ length caught)
-    × (q .vector ≡ q₀ .vector + i) × Standing drops card c live marks q × UpdatedAll drops card c vectors (q₀ .vector) i marks₀ marks
+Inv-loop card c tables vectors marks₀ tallies₀ values₀ flips₀ caught₀ n all q₀ i₀ marks tallies values flips caught q i =
+    (i ≤ n) × (length marks ≡ length marks₀) × (length tallies ≡ length tallies₀) × (5120 ≡ length values) × (1024 ≡ length flips) × (5120 ≡ length caught)
+    × (q .vector ≡ q₀ .vector + i) × Counted (c .faults) marks tallies q × UpdatedAll card c vectors (q₀ .vector) i marks₀ tallies₀ marks tallies
 
 abbrev μ-loop : tie.MeasureT-loop
-μ-loop drops card c tables vectors live₀ marks₀ values₀ flips₀ caught₀ n all q₀ i₀ live marks values flips caught q i =
+μ-loop card c tables vectors marks₀ tallies₀ values₀ flips₀ caught₀ n all q₀ i₀ marks tallies values flips caught q i =
     n - i
 
 place-table-requires : tie.Need-place-table-requires Inv-loop μ-loop
@@ -43,7 +43,7 @@ loop-holds : tie.Need-loop-holds Inv-loop μ-loop
 loop-holds c =
     let at-table = c .before .before in
     let start = at-table .before .before .before .before .before .before .before in
-    (omega arith, refl, refl, at-table .before .before .place-table .ensures, at-table .before .graph-table .ensures, at-table .place-table2 .ensures, omega arith, start .pre .3, updated-none)
+    (omega arith, refl, refl, at-table .before .before .place-table .ensures, at-table .before .graph-table .ensures, at-table .place-table2 .ensures, omega arith, start .pre .2, updated-none)
 
 vector-at-requires : tie.Need-vector-at-requires Inv-loop μ-loop
 vector-at-requires c κs =
@@ -55,19 +55,19 @@ vector-at-requires c κs =
 
 slice-aggregate-catch-vector : tie.Need-slice-aggregate-catch-vector Inv-loop μ-loop
 slice-aggregate-catch-vector c =
-    c .before .before .before .before .loop .inv .3
+    c .before .before .before .loop .inv .3
 
 slice-aggregate-catch-vector-2 : tie.Need-slice-aggregate-catch-vector-2 Inv-loop μ-loop
 slice-aggregate-catch-vector-2 c =
-    c .before .before .before .before .before .loop .inv .4
+    c .before .before .before .before .loop .inv .4
 
 slice-aggregate-catch-vector-3 : tie.Need-slice-aggregate-catch-vector-3 Inv-loop μ-loop
 slice-aggregate-catch-vector-3 c =
-    c .before .before .before .before .before .before .loop .inv .5
+    c .before .before .before .before .before .loop .inv .5
 
 catch-vector-requires : tie.Need-catch-vector-requires Inv-loop μ-loop
 catch-vector-requires c κs =
-    let at-vector = c .before .before .before .before in
+    let at-vector = c .before .before .before in
     let at-loop = at-vector .before .before in
     let at-count = at-loop .before .before in
     let at-table = at-count .before in
@@ -79,7 +79,6 @@ catch-vector-requires c κs =
       start .pre .0,
       rw (at-vector .vector-at .ensures) (omega (arith, vector-width (start .args .c .inputs) (start .args .vectors .now) (at-loop .loop .i) inside)),
       record {
-        live-long = omega (arith, start .pre .2, inv .1);
         values-long = omega (arith, inv .3, shape .few-nodes, shape .few-graphs);
         flips-long = omega (arith, inv .4, shape .few-graphs);
         caught-long = omega (arith, inv .5, shape .few-nodes, shape .few-graphs);
@@ -91,8 +90,8 @@ slice-aggregate-take-in c = search needs
 
 take-in-requires : tie.Need-take-in-requires Inv-loop μ-loop
 take-in-requires c κs =
-    let at-catch = c .before .before .before .before .before in
-    let at-test = at-catch .before .before .before .before .before .before in
+    let at-catch = c .before .before .before .before .before .before in
+    let at-test = at-catch .before .before .before .before .before in
     let at-loop = at-test .before in
     let at-count = at-loop .before .before in
     let at-table = at-count .before in
@@ -102,28 +101,14 @@ take-in-requires c κs =
       omega (arith, inv .6, start .pre .1 .few, at-test .loop-test .taken, at-count .count-vectors .ensures),
       omega (arith, shape .few-nodes, shape .few-graphs),
       at-catch .catch-vector .ensures .long,
-      rw (all-places shape) (inv .7 .counted),
+      rw (all-places shape) (inv .7),
     )
-
-index-1-drop-marked : tie.Need-index-1-drop-marked Inv-loop μ-loop
-index-1-drop-marked c = search needs
-
-drop-marked-requires : tie.Need-drop-marked-requires Inv-loop μ-loop
-drop-marked-requires c κs =
-    let at-take = c .before .before .before .before .before .before in
-    let at-catch = at-take .before .before .before .before .before .before in
-    let at-loop = at-catch .before .before .before .before .before .before .before in
-    let at-table = at-loop .before .before .before in
-    let start = at-table .before .before .before .before .before .before .before in
-    let inv = at-loop .loop .inv in
-    (faults-inside (start .pre .0 .ready), omega (arith, inv .7 .counted .long, at-take .take-in .kept .1 .1 .1 .1 .0), omega (arith, start .pre .2, inv .1))
 
 add-i : tie.Need-add-i Inv-loop μ-loop
 add-i c =
-    let at-drop = c .before .before in
-    let at-take = at-drop .before .before .before .before .before .before .before in
-    let at-catch = at-take .before .before .before .before .before .before in
-    let at-test = at-catch .before .before .before .before .before .before in
+    let at-take = c .before .before .before .before in
+    let at-catch = at-take .before .before .before .before .before .before .before in
+    let at-test = at-catch .before .before .before .before .before in
     let at-count = at-test .before .before .before in
     let at-table = at-count .before in
     let start = at-table .before .before .before .before .before .before .before in
@@ -131,17 +116,15 @@ add-i c =
 
 loop-less : tie.Need-loop-less Inv-loop μ-loop
 loop-less c =
-    let at-drop = c .before .before in
-    let at-take = at-drop .before .before .before .before .before .before .before in
-    let at-catch = at-take .before .before .before .before .before .before in
-    omega (arith, at-catch .before .before .before .before .before .before .loop-test .taken)
+    let at-take = c .before .before .before .before in
+    let at-catch = at-take .before .before .before .before .before .before .before in
+    omega (arith, at-catch .before .before .before .before .before .loop-test .taken)
 
 loop-again : tie.Need-loop-again Inv-loop μ-loop
 loop-again c =
-    let at-drop = c .before .before in
-    let at-take = at-drop .before .before .before .before .before .before .before in
-    let at-catch = at-take .before .before .before .before .before .before in
-    let at-vector = at-catch .before .before .before .before .before in
+    let at-take = c .before .before .before .before in
+    let at-catch = at-take .before .before .before .before .before .before .before in
+    let at-vector = at-catch .before .before .before .before in
     let at-loop = at-vector .before .before in
     let at-table = at-loop .before .before .before in
     let start = at-table .before .before .before .before .before .before .before in
@@ -149,16 +132,16 @@ loop-again c =
     let tabled = start .pre .0 in
     let told = at-catch .catch-vector .ensures in
     let took = at-take .take-in in
-    let catch-kept = at-catch .catch-vector .kept .1 .1 .1 .1 .1 in (
+    let catch-kept = at-catch .catch-vector .kept .1 .1 .1 .1 in (
       omega (arith, at-vector .before .loop-test .taken),
-      omega (arith, inv .1, at-drop .drop-marked .kept .1 .1 .1 .0),
+      omega (arith, inv .1, took .kept .1 .1 .1 .0),
       omega (arith, inv .2, took .kept .1 .1 .1 .1 .0),
       omega (arith, inv .3, catch-kept .0),
       omega (arith, inv .4, catch-kept .1 .0),
       omega (arith, inv .5, catch-kept .1 .1 .0),
       omega (arith, inv .6, took .ensures .0),
-      standing-next (tabled .ready) told (inv .7) (took .ensures .1) (took .ensures .2) (at-drop .drop-marked .ensures),
-      updated-more (inv .8) (rw (at-vector .vector-at .ensures, inv .6) at (updated (tabled .ready .shape) _ told (inv .7 .idle) (took .ensures .1))),
+      rw (all-places (tabled .ready .shape)) at (took .ensures .2),
+      updated-more (inv .8) (rw (at-vector .vector-at .ensures, inv .6) at (updated (tabled .ready .shape) _ told (took .ensures .1))),
     )
 
 same-length : tie.Need-same-length Inv-loop μ-loop
@@ -176,7 +159,7 @@ returns c =
     let start = at-table .before .before .before .before .before .before .before in
     let inv = at-loop .loop .inv in
     let all : at-loop .loop .i ≡ vectors (start .args .c .inputs) (start .args .vectors .now) = omega (arith, inv .0, c .loop-test .left, at-count .count-vectors .ensures) in
-    record { vector = omega (arith, inv .6, all); updated = rw all at (inv .8); standing = inv .7 }
+    record { vector = omega (arith, inv .6, all); updated = rw all at (inv .8); counted = inv .7 }
 
 pub take-block-spec : {M : Type 1} → statement M
 take-block-spec =
@@ -197,8 +180,6 @@ take-block-spec =
     catch-vector-requires
     slice-aggregate-take-in
     take-in-requires
-    index-1-drop-marked
-    drop-marked-requires
     add-i
     loop-less
     loop-again

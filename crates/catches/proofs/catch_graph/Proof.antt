@@ -1,45 +1,68 @@
 -- `catches::catch_graph` meets its contract. Assumes nothing.
-use Prim.Native.Nat.{ℕ}
-use mathlib.Core.Path.{refl, sym, _∙_}
 use native.Mathlib.Omega.{arith}
-use borrow.Author.Tests.{eq-eqb, ne-eqb}
-use Rattle.catches.specs.Caught.{caughtAt}
-use Rattle.catches.proofs.Words.{nodes-inside, nodes-cleared, whole-written, told-more}
+use Rattle.catches.proofs.Words.{told-more}
+use Rattle.catches.proofs.Steps.{graph-word}
 use borrow.Author.Needs.{needs}
 use Rattle.catches.proofs.catch_graph.Statement.{statement}
 use Rattle.catches.proofs.catch_graph.Tie as tie
 
-clear-nodes-requires : tie.Need-clear-nodes-requires
-clear-nodes-requires c κs =
-    let at-get = c .before .before .before .before in
-    let start = at-get .before .before .before .before .before .before in
-    let n = nodes-inside (start .pre .0 .ready) (start .pre .2) in
-    (omega (arith, start .pre .0 .ready .long, start .pre .2), n .0, omega (arith, n .1, start .pre .6))
+is-critical-requires : tie.Need-is-critical-requires
+is-critical-requires c κs =
+    let start = c .before .before .before .before .before in
+    (start .pre .0, start .pre .2, start .pre .1 .long, start .pre .3, start .pre .4)
+
+catch-nodes-requires : tie.Need-catch-nodes-requires
+catch-nodes-requires c κs =
+    let at-is-critical = c .before .before .before .before .before in
+    let start = at-is-critical .before .before .before .before .before .before in
+    (start .pre .0 .ready, start .pre .1, start .pre .2, omega (arith, start .pre .5))
+
+add-get : tie.Need-add-get
+add-get c =
+    let at-catch-nodes = c .before .before .before in
+    let at-is-critical = at-catch-nodes .before .before .before .before .before .before in
+    let start = at-is-critical .before .before .before .before .before .before in
+    omega (arith, start .pre .0 .ready .shape .few-nodes, start .pre .0 .ready .shape .few-graphs, start .pre .2)
+
+get-requires : tie.Need-get-requires
+get-requires c κs =
+    let at-catch-nodes = c .before .before .before in
+    let at-is-critical = at-catch-nodes .before .before .before .before .before .before in
+    let start = at-is-critical .before .before .before .before .before .before in
+    omega (arith, start .pre .1 .long, start .pre .2)
+
+add-put : tie.Need-add-put
+add-put c =
+    let at-catch-nodes = c .before .before .before .before .before .before in
+    let at-is-critical = at-catch-nodes .before .before .before .before .before .before in
+    let start = at-is-critical .before .before .before .before .before .before in
+    omega (arith, start .pre .0 .ready .shape .few-nodes, start .pre .0 .ready .shape .few-graphs, start .pre .2)
+
+caught-whole-requires : tie.Need-caught-whole-requires
+caught-whole-requires c κs =
+    let at-get = c .before .before in
+    let at-catch-nodes = at-get .before .before .before .before in
+    let at-is-critical = at-catch-nodes .before .before .before .before .before .before in
+    let start = at-is-critical .before .before .before .before .before .before in
+    rw (at-get .get .ensures) (start .pre .1 .bit _ (start .pre .2))
 
 returns : tie.Need-returns
 returns c =
     let at-put = c .before .before in
-    let at-clear-nodes = at-put .before .before .before .before .before in
-    let at-if1 = at-clear-nodes .before .before .before .before in
-    let at-get = at-if1 .before in
-    let start = at-get .before .before .before .before .before .before in
-    let a = start .pre .0 .ready .shape in
+    let at-caught-whole = at-put .before in
+    let at-get = at-caught-whole .before .before .before in
+    let at-catch-nodes = at-get .before .before .before .before in
+    let at-is-critical = at-catch-nodes .before .before .before .before .before .before in
+    let start = at-is-critical .before .before .before .before .before .before in
     λ x p s.
-    let n = nodes-cleared {x = x} (start .pre .0 .ready) (start .pre .2) (at-clear-nodes .clear-nodes .ensures) in
-    let w = whole-written a (start .pre .2) (λ (i : ℕ). 2) n (λ i b. n .onward i (omega arith) b) (start .pre .6) (at-put .put .ensures) refl in
-    record { flat = s .flat; told = told-more a (start .pre .2) (λ (i : ℕ). 2) (s .told) w (λ i. rw (eq-eqb _ _ (sym (at-get .get .ensures) ∙ at-if1 .if1 .taken))) }
-
-returns-2 : tie.Need-returns-2
-returns-2 c =
-    let at-catch-live = c .before .before .before .before in
-    let at-if1 = at-catch-live .before .before .before in
-    let at-get = at-if1 .before in
-    let start = at-get .before .before .before .before .before .before in
-    λ x p s.
-    let w = at-catch-live .catch-live .ensures x p (s .flat) in
-    record { flat = w .0; told = told-more (start .pre .0 .ready .shape) (start .pre .2) (caughtAt (start .args .card .now) (start .args .c) x) (s .told) (w .1) (λ i. rw (ne-eqb _ _ (λ z. at-if1 .if1 .left (at-get .get .ensures ∙ z)))) }
+    let e = at-is-critical .is-critical .ensures x p (s .flat) in
+    record {
+      flat = e .1;
+      told = told-more (start .pre .0 .ready .shape) (start .pre .2) (s .told) (at-catch-nodes .catch-nodes .ensures x p (e .0)) (at-put .put .ensures)
+          (graph-word (start .pre .0 .ready) p (start .pre .2) (e .0) (at-get .get .ensures) (at-caught-whole .caught-whole .ensures));
+    }
 
 pub catch-graph-spec : {M : Type 1} → statement M
 catch-graph-spec =
     tie.close
-    (tie.spec (λ c κs. search needs) (λ c. search needs) clear-nodes-requires (λ c. search needs) (λ c κs. search needs) (λ c. search needs) returns (λ c κs. search needs) (λ c. search needs) (λ c. search needs) returns-2)
+    (tie.spec is-critical-requires (λ c. search needs) catch-nodes-requires add-get get-requires add-put caught-whole-requires (λ c κs. search needs) (λ c. search needs) (λ c. search needs) returns)

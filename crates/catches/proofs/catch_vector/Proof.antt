@@ -14,30 +14,30 @@ use Rattle.catches.proofs.catch_vector.Statement.{statement}
 use Rattle.catches.proofs.catch_vector.Tie as tie
 
 abbrev Inv-loop : tie.InvT-loop
-Inv-loop card c tables vector live values flips₀ caught₀ g₀ flips caught g = (g ≤ c .graphs) × (length flips ≡ length flips₀) × (length caught ≡ length caught₀) × Caught card c vector live g flips caught
+Inv-loop card c tables vector values flips₀ caught₀ g₀ flips caught g = (g ≤ c .graphs) × (length flips ≡ length flips₀) × (length caught ≡ length caught₀) × Caught card c vector g flips caught
 
 abbrev μ-loop : tie.MeasureT-loop
-μ-loop card c tables vector live values flips₀ caught₀ g₀ flips caught g = c .graphs - g
+μ-loop card c tables vector values flips₀ caught₀ g₀ flips caught g = c .graphs - g
 
 sweep-requires : tie.Need-sweep-requires Inv-loop μ-loop
 sweep-requires c κs =
-    let at-shared-slice-known2 = c .before .before .before .before .before .before .before in
-    let start = at-shared-slice-known2 .before .before in
+    let at-shared-slice-known = c .before .before .before .before .before .before .before in
+    let start = at-shared-slice-known .before in
     (start .pre .0 .ready, wide _ _ (start .pre .1), start .pre .2 .values-long)
 
 restore-requires : tie.Need-restore-requires Inv-loop μ-loop
 restore-requires c κs =
     let at-sweep = c .before .before .before .before in
-    let at-shared-slice-known3 = at-sweep .before .before .before .before .before .before .before in
-    let start = at-shared-slice-known3 .before .before .before in
+    let at-shared-slice-known2 = at-sweep .before .before .before .before .before .before .before in
+    let start = at-shared-slice-known2 .before .before in
     (at-sweep .sweep .ensures .long, start .pre .2 .flips-long)
 
 loop-holds : tie.Need-loop-holds Inv-loop μ-loop
 loop-holds c =
     let at-restore = c .before .before in
     let at-sweep = at-restore .before .before .before .before .before in
-    let at-shared-slice-known3 = at-sweep .before .before .before .before .before .before .before in
-    let start = at-shared-slice-known3 .before .before .before in
+    let at-shared-slice-known2 = at-sweep .before .before .before .before .before .before .before in
+    let start = at-shared-slice-known2 .before .before in
     (omega arith, refl, refl, record { flat = restored _ (at-sweep .sweep .ensures) (start .pre .2 .flips-long) (at-restore .restore .ensures); told = told-none (start .pre .2 .caught-long) })
 
 catch-graph-requires : tie.Need-catch-graph-requires Inv-loop μ-loop
@@ -46,11 +46,11 @@ catch-graph-requires c κs =
     let at-loop = at-if1 .before .before in
     let at-values = at-loop .before .before .before .before .before .before .before in
     let at-sweep = at-values .before in
-    let at-shared-slice-known3 = at-sweep .before .before .before .before .before .before .before in
-    let start = at-shared-slice-known3 .before .before .before in
+    let at-shared-slice-known2 = at-sweep .before .before .before .before .before .before .before in
+    let start = at-shared-slice-known2 .before .before in
     let a = start .pre .0 .ready .shape in
     let i = at-loop .loop .inv .3 in
-    (start .pre .0, swept-bits a (at-sweep .sweep .ensures), at-if1 .if1 .taken, start .pre .2 .live-long, i .flat .long, own-bit a _ _ (i .flat) (at-if1 .if1 .taken) refl, i .told .long)
+    (start .pre .0, swept-bits a (at-sweep .sweep .ensures), at-if1 .if1 .taken, i .flat .long, own-bit a _ _ (i .flat) (at-if1 .if1 .taken) refl, i .told .long)
 
 loop-again : tie.Need-loop-again Inv-loop μ-loop
 loop-again c =
@@ -65,8 +65,8 @@ returns c =
     let at-loop = c .before .before in
     let at-values = at-loop .before .before .before .before .before .before .before in
     let at-sweep = at-values .before in
-    let at-shared-slice-known3 = at-sweep .before .before .before .before .before .before .before in
-    let start = at-shared-slice-known3 .before .before .before in
+    let at-shared-slice-known2 = at-sweep .before .before .before .before .before .before .before in
+    let start = at-shared-slice-known2 .before .before in
     let e : at-loop .loop .g ≡ start .args .c .graphs = omega arith in
     rw e at (at-loop .loop .inv .3 .told)
 

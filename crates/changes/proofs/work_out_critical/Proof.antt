@@ -5,31 +5,27 @@ use mathlib.Core.Bool.{Bool}
 use native.Mathlib.Omega.{arith}
 use lib.Dec.{ltb}
 use Rattle.lists.specs.Counting.{choose}
-use Rattle.lists.specs.Tables.{always}
-use Rattle.lists.proofs.Tables.{over-at, over-same}
+use Rattle.lists.proofs.Tables.{over-same}
 use Rattle.catches.proofs.Caught.{critical-word}
-use Rattle.catches.proofs.Told.{told-all}
+use Rattle.catches.proofs.Told.{told-node}
 use borrow.Author.Needs.{needs}
 use Rattle.changes.proofs.work_out_critical.Statement.{statement}
 use Rattle.changes.proofs.work_out_critical.Tie as tie
 
 catch-vector-requires : tie.Need-catch-vector-requires
 catch-vector-requires c κs =
-    let at-place-table2 = c .before .before .before .before .before in
-    let at-graph-table2 = at-place-table2 .before in
-    let at-place-table = at-graph-table2 .before in
-    let at-fill = at-place-table .before .before in
-    let at-graph-table = at-fill .before .before in
-    let at-make-tables = at-graph-table .before in
+    let at-place-table2 = c .before .before .before .before in
+    let at-graph-table = at-place-table2 .before in
+    let at-place-table = at-graph-table .before in
+    let at-make-tables = at-place-table .before in
     let start = at-make-tables .before .before .before .before in
     let f = start .pre .0 .few-graphs in
     let n = start .pre .0 .few-nodes in (
       at-make-tables .make-tables .ensures,
       start .pre .1,
       record {
-        live-long = omega (arith, f, at-graph-table .graph-table .ensures, at-fill .fill .kept .0);
         values-long = omega (arith, f, n, at-place-table .place-table .ensures);
-        flips-long = omega (arith, f, at-graph-table2 .graph-table2 .ensures);
+        flips-long = omega (arith, f, at-graph-table .graph-table .ensures);
         caught-long = omega (arith, f, n, at-place-table2 .place-table2 .ensures);
       },
     )
@@ -37,23 +33,21 @@ catch-vector-requires c κs =
 flag-places-requires : tie.Need-flag-places-requires
 flag-places-requires c κs =
     let at-catch-vector = c .before .before .before .before .before in
-    let at-graph-table2 = at-catch-vector .before .before .before .before .before .before .before in
-    let at-make-tables = at-graph-table2 .before .before .before .before .before .before in
-    let start = at-make-tables .before .before .before .before in
+    let at-graph-table = at-catch-vector .before .before .before .before .before .before in
+    let start = at-graph-table .before .before .before .before .before .before in
     (omega (arith, at-catch-vector .catch-vector .ensures .long), start .pre .2)
 
 returns : tie.Need-returns
 returns c =
     let at-flag-places = c .before .before in
     let at-catch-vector = at-flag-places .before .before .before .before .before .before in
-    let at-graph-table2 = at-catch-vector .before .before .before .before .before .before .before in
-    let at-fill = at-graph-table2 .before .before .before in
-    let start = at-fill .before .before .before .before .before .before .before in
+    let at-graph-table = at-catch-vector .before .before .before .before .before .before in
+    let start = at-graph-table .before .before .before .before .before .before in
     at-flag-places .flag-places .ensures ∙ over-same _ _ _ _ (λ j h.
-    let t = told-all (start .pre .0) (at-catch-vector .catch-vector .ensures) j h (λ g i. rw (at-fill .fill .ensures) (over-at (always 1) _ _ g i)) in
+    let t = told-node (start .pre .0) (at-catch-vector .catch-vector .ensures) j h in
     ap (λ (b : Bool). choose b 1 0) (ap (λ (n : ℕ). ltb n 2) t ∙ critical-word (start .pre .0) _ j h))
 
 pub work-out-critical-spec : {M : Type 1} → statement M
 work-out-critical-spec =
     tie.close
-    (tie.spec (λ c κs. search needs) (λ c κs. search needs) (λ c. search needs) (λ c κs. search needs) (λ c κs. search needs) (λ c κs. search needs) (λ c κs. search needs) (λ c. search needs) (λ c. search needs) (λ c. search needs) (λ c. search needs) catch-vector-requires (λ c. search needs) flag-places-requires (λ c. search needs) returns)
+    (tie.spec (λ c κs. search needs) (λ c κs. search needs) (λ c κs. search needs) (λ c κs. search needs) (λ c. search needs) (λ c. search needs) (λ c. search needs) catch-vector-requires (λ c. search needs) flag-places-requires (λ c. search needs) returns)

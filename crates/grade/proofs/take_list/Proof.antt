@@ -1,11 +1,11 @@
 -- `grade::take_list` meets its contract. Assumes nothing.
--- The invariant: the vectors below t are taken in, so the buffer is that of the first t vectors, and the result stands.
+-- The invariant: the vectors below t are taken in, so marks and tallies are those of the first t vectors, and the result counts them.
 use Prim.Native.Nat.{_-_, _≤_}
-use Rattle.block.specs.Block.{Standing}
-use Rattle.grade.proofs.Graded.{list-ends, list-part, block-of, block-number, graded-block, graded-last, marked-last}
+use Rattle.grade.proofs.Graded.{list-ends, list-part, block-of, block-number, graded-block, marks-last, tallies-last, marked-last}
 use Rattle.grade.proofs.take_list.Statement.{statement}
 use Rattle.grade.proofs.take_list.Tie as tie
 use Rattle.grade.specs.Graded.{Graded}
+use Rattle.running.specs.Running.{Counted}
 use Rattle.testvectors.specs.Vectors.{vectors}
 use borrow.Author.Needs.{needs}
 use lib.ListN.{length}
@@ -13,11 +13,12 @@ use mathlib.Core.Path.{_≡_, refl, _∙_}
 use native.Mathlib.Omega.{arith}
 
 abbrev Inv-loop : tie.InvT-loop
-Inv-loop drops card c tables list live₀ marks₀ w n r₀ t₀ live marks r t =
-    (t ≤ n) × (length live ≡ length live₀) × (length marks ≡ length marks₀) × (r .vector ≡ t) × Standing drops card c live marks r × Graded drops card c list t marks₀ marks
+Inv-loop card c tables list marks₀ tallies₀ w n r₀ t₀ marks tallies r t =
+    (t ≤ n) × (length marks ≡ length marks₀) × (length tallies ≡ length tallies₀) × (r .vector ≡ t) × Counted (c .faults) marks tallies r
+    × Graded card c list t marks₀ tallies₀ marks tallies
 
 abbrev μ-loop : tie.MeasureT-loop
-μ-loop drops card c tables list live₀ marks₀ w n r₀ t₀ live marks r t = n - t
+μ-loop card c tables list marks₀ tallies₀ w n r₀ t₀ marks tallies r t = n - t
 
 width-requires : tie.Need-width-requires Inv-loop μ-loop
 width-requires c κs =
@@ -32,7 +33,7 @@ count-vectors-requires c κs =
 loop-holds : tie.Need-loop-holds Inv-loop μ-loop
 loop-holds c =
     let start = c .before .before .before .before .before .before in
-    (omega arith, refl, refl, start .pre .3, start .pre .4, start .pre .5)
+    (omega arith, refl, refl, start .pre .2, start .pre .3, start .pre .4)
 
 block-end-requires : tie.Need-block-end-requires Inv-loop μ-loop
 block-end-requires c κs = omega (arith, c .loop-test .taken)
@@ -78,7 +79,7 @@ take-block-requires c κs =
     let wide = at-count .before .width .ensures in
     let end = at-end .block-end .ensures in
     let part = list-part listed wide end (omega (arith, at-count .count-vectors .ensures)) refl in
-    (start .pre .1, block-of listed wide end (omega (arith, at-count .count-vectors .ensures)) part (inv .3), omega (arith, start .pre .2, inv .1), inv .4)
+    (start .pre .1, block-of listed wide end (omega (arith, at-count .count-vectors .ensures)) part (inv .3), inv .4)
 
 loop-less : tie.Need-loop-less Inv-loop μ-loop
 loop-less c =
@@ -98,11 +99,11 @@ loop-again c =
     let end = at-end .block-end .ensures in
     let part = list-part (start .pre .0) (at-count .before .width .ensures) end (omega (arith, at-count .count-vectors .ensures)) refl in (
       end .inside,
-      omega (arith, inv .1, took .kept .1 .1 .1 .1 .1 .1 .0),
-      omega (arith, inv .2, took .kept .1 .1 .1 .1 .1 .1 .1 .0),
-      block-number _ _ _ _ part end (inv .3) (took .ensures),
-      took .ensures .standing,
-      graded-block _ _ _ _ part end (inv .3) (took .ensures) (inv .5),
+      omega (arith, inv .1, took .kept .1 .1 .1 .1 .1 .0),
+      omega (arith, inv .2, took .kept .1 .1 .1 .1 .1 .1 .0),
+      block-number _ _ _ part end (inv .3) (took .ensures),
+      took .ensures .counted,
+      graded-block _ _ _ part end (inv .3) (took .ensures) (inv .5),
     )
 
 same-length : tie.Need-same-length Inv-loop μ-loop
@@ -119,7 +120,8 @@ returns c =
     let inv = at-loop .loop .inv in
     let all : at-loop .loop .t ≡ vectors (start .args .c .inputs) (start .args .list .now) = omega (arith, inv .0, c .loop-test .left, at-count .count-vectors .ensures) in
     let whole = rw all at (inv .5) in
-    (inv .4 .counted .number ∙ marked-last _ _ _ _ whole, graded-last _ _ _ _ (start .pre .4 .counted .long) (inv .2) whole)
+    let counted = start .pre .3 in
+    (inv .4 .number ∙ marked-last _ _ _ whole, marks-last _ _ _ whole (counted .marks-long) (inv .1), tallies-last _ _ _ whole (counted .tallies-long) (inv .2))
 
 pub take-list-spec : {M : Type 1} → statement M
 take-list-spec =

@@ -1,12 +1,12 @@
 -- `hostlist::take_list` meets its contract. Assumes nothing.
--- The invariant: the vectors below t are taken in, so the buffer of marks is that of the first t vectors, and the result stands.
+-- The invariant: the vectors below t are taken in, so marks and tallies are those of the first t vectors, and the result counts them.
 use Prim.Native.Nat.{_-_, _≤_}
-use Rattle.block.specs.Block.{Standing}
-use Rattle.grade.proofs.Graded.{block-number, graded-block, graded-last, marked-last}
+use Rattle.grade.proofs.Graded.{block-number, graded-block, marks-last, tallies-last, marked-last}
 use Rattle.grade.specs.Graded.{Graded}
 use Rattle.hostlist.proofs.Gradings.{vectors-are, bytes-ends, words-fit, bytes-part, bytes-block}
 use Rattle.hostlist.proofs.take_list.Statement.{statement}
 use Rattle.hostlist.proofs.take_list.Tie as tie
+use Rattle.running.specs.Running.{Counted}
 use Rattle.testvectors.proofs.Laws.{width-some}
 use Rattle.testvectors.specs.Vectors.{vectors}
 use Rattle.word32.specs.Bytes.{wordsOf}
@@ -17,12 +17,12 @@ use mathlib.Core.Path.{_≡_, refl, sym, _∙_}
 use native.Mathlib.Omega.{arith}
 
 abbrev Inv-loop : tie.InvT-loop
-Inv-loop drops card c tables list live₀ marks₀ buffer₀ w n r₀ t₀ live marks buffer r t =
-    (t ≤ n) × (length live ≡ length live₀) × (length marks ≡ length marks₀) × (4096 ≡ length buffer) × (r .vector ≡ t) × Standing drops card c live marks r
-    × Graded drops card c (wordsOf list) t marks₀ marks
+Inv-loop card c tables list marks₀ tallies₀ buffer₀ w n r₀ t₀ marks tallies buffer r t =
+    (t ≤ n) × (length marks ≡ length marks₀) × (length tallies ≡ length tallies₀) × (4096 ≡ length buffer) × (r .vector ≡ t)
+    × Counted (c .faults) marks tallies r × Graded card c (wordsOf list) t marks₀ tallies₀ marks tallies
 
 abbrev μ-loop : tie.MeasureT-loop
-μ-loop drops card c tables list live₀ marks₀ buffer₀ w n r₀ t₀ live marks buffer r t = n - t
+μ-loop card c tables list marks₀ tallies₀ buffer₀ w n r₀ t₀ marks tallies buffer r t = n - t
 
 block-room-requires : tie.Need-block-room-requires Inv-loop μ-loop
 block-room-requires c κs = search needs
@@ -40,7 +40,7 @@ loop-holds : tie.Need-loop-holds Inv-loop μ-loop
 loop-holds c =
     let at-room = c .before in
     let start = at-room .before .before .before .before .before in
-    (omega arith, refl, refl, at-room .block-room .ensures, start .pre .3, start .pre .4, start .pre .5)
+    (omega arith, refl, refl, at-room .block-room .ensures, start .pre .2, start .pre .3, start .pre .4)
 
 block-end-requires : tie.Need-block-end-requires Inv-loop μ-loop
 block-end-requires c κs = omega (arith, c .loop-test .taken)
@@ -125,7 +125,7 @@ take-block-requires c κs =
     let wide = at-width .width .ensures in
     let end = at-end .block-end .ensures in
     let read = at-words .words-of .ensures in
-    (start .pre .1, bytes-block _ listed wide end (omega arith) (bytes-part _ listed wide end (omega arith) _ refl _ (read .0) (read .1)) (inv .4), omega (arith, start .pre .2, inv .1), inv .5)
+    (start .pre .1, bytes-block _ listed wide end (omega arith) (bytes-part _ listed wide end (omega arith) _ refl _ (read .0) (read .1)) (inv .4), inv .5)
 
 loop-less : tie.Need-loop-less Inv-loop μ-loop
 loop-less c =
@@ -146,12 +146,12 @@ loop-again c =
     let end = at-end .block-end .ensures in
     let part = bytes-part _ (start .pre .0) (at-width .width .ensures) end (omega arith) _ refl _ (read .ensures .0) (read .ensures .1) in (
       end .inside,
-      omega (arith, inv .1, took .kept .1 .1 .1 .1 .1 .1 .0),
-      omega (arith, inv .2, took .kept .1 .1 .1 .1 .1 .1 .1 .0),
+      omega (arith, inv .1, took .kept .1 .1 .1 .1 .1 .0),
+      omega (arith, inv .2, took .kept .1 .1 .1 .1 .1 .1 .0),
       omega (arith, inv .3, read .kept .1 .0),
-      block-number _ _ _ _ part end (inv .4) (took .ensures),
-      took .ensures .standing,
-      graded-block _ _ _ _ part end (inv .4) (took .ensures) (inv .6),
+      block-number _ _ _ part end (inv .4) (took .ensures),
+      took .ensures .counted,
+      graded-block _ _ _ part end (inv .4) (took .ensures) (inv .6),
     )
 
 same-length : tie.Need-same-length Inv-loop μ-loop
@@ -169,7 +169,8 @@ returns c =
     let all : at-loop .loop .t ≡ vectors (start .args .c .inputs) (wordsOf (start .args .list .now)) =
     omega (arith, inv .0, c .loop-test .left, vectors-are (start .args .c .inputs) (start .args .list .now) (at-width .width .ensures)) in
     let whole = rw all at (inv .6) in
-    (inv .5 .counted .number ∙ marked-last _ _ _ _ whole, graded-last _ _ _ _ (start .pre .4 .counted .long) (inv .2) whole)
+    let counted = start .pre .3 in
+    (inv .5 .number ∙ marked-last _ _ _ whole, marks-last _ _ _ whole (counted .marks-long) (inv .1), tallies-last _ _ _ whole (counted .tallies-long) (inv .2))
 
 pub take-list-spec : {M : Type 1} → statement M
 take-list-spec =
