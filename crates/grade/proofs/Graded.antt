@@ -4,15 +4,13 @@ use mathlib.Core.Path.{_≡_, refl, sym, ap, ap₂, _∙_}
 use mathlib.Core.List.{List}
 use mathlib.Core.Bool.{Bool}
 use native.Mathlib.Omega.{arith}
-use native.Mathlib.Decide.{decLt}
-use native.Mathlib.Nat.{add-zero, add-mul, mul-le-mul}
+use native.Mathlib.Nat.{add-zero, zero-add, add-mul, mul-le-mul}
 use lib.ListN.{length, getD, take, drop}
-use lib.Seq.{ext-getD, getD-append-add, getD-drop}
 use lib.Dec.{ltb}
 use Rattle.lists.specs.Counting.{count, least}
-use Rattle.lists.specs.Tables.{tab, over, always}
+use Rattle.lists.specs.Tables.{over, always}
 use Rattle.lists.proofs.Counting.{count-same, count-shifted}
-use Rattle.lists.proofs.Tables.{length-tab, over-at, length-over}
+use Rattle.lists.proofs.Tables.{over-at, over-rest, over-is, length-over}
 use Rattle.answers.specs.declared.Counts.{Counts}
 use Rattle.testvectors.specs.Vectors.{width, vectors}
 use Rattle.testvectors.specs.Parts.{Part}
@@ -25,30 +23,11 @@ use Rattle.running.specs.declared.Running.{Running}
 use Rattle.block.specs.Block.{markAfter, UpdatedAll, Ends, Block, TookIn}
 use Rattle.grade.specs.Graded.{Graded, Listed}
 
--- a buffer beyond the words that were made
-over-rest : (f : ℕ → ℕ) (d : List ℕ) (n i : ℕ) → n ≤ i → getD (over n f d) i 0 ≡ getD d i 0
-over-rest f d n i h =
-    let e : i ≡ n + (i - n) = omega arith in
-    rw e (ap (λ (m : ℕ). getD (over n f d) (m + (i - n)) 0) (sym (length-tab f n)) ∙ getD-append-add (tab f n) (drop n d) (i - n) 0 ∙ getD-drop n d (i - n) 0)
-
--- a buffer whose first words are made by a rule, and the rest as it was
-over-is : (g : ℕ → ℕ) (xs ys : List ℕ) (n : ℕ) → n ≤ length xs → length ys ≡ length xs → ((i : ℕ) → i < n → getD ys i 0 ≡ g i) → ((i : ℕ) → n ≤ i → getD ys i 0 ≡ getD xs i 0)
-    → ys ≡ over n g xs
-over-is g xs ys n l e p q =
-    ext-getD 0 ys (over n g xs) (e ∙ sym (length-over g xs n l)) (λ i h.
-    elim (decLt i n) [
-      | yes m ↦ p i m ∙ sym (over-at g xs n i m)
-      | no m ↦ q i (omega arith) ∙ sym (over-rest g xs n i (omega arith))
-    ])
-
 -- a mark and a tally after n more vectors, where q tells of each what p tells of it by its number
 module _ (p q : ℕ → Bool) (t : ℕ) where
   tally-after : (n : ℕ) → ((i : ℕ) → i < n → q i ≡ p (t + i)) → count p t + count q n ≡ count p (t + n)
   unfolding count
-  tally-after n e = omega (arith, rw from at (count-shifted p q t 0 n (λ i h. rw from (sym (e i h)))))
-    where
-      from : {i : ℕ} → 0 + i ≡ i
-      from = omega arith
+  tally-after n e = omega (arith, rw (zero-add n) at (count-shifted p q t 0 n (λ i h. rw (zero-add i) (sym (e i h)))))
 
   mark-after : (n : ℕ) → ((i : ℕ) → i < n → q i ≡ p (t + i)) → markAfter t q (count p t) (markBy p t) n ≡ markBy p (t + n)
   unfolding markAfter

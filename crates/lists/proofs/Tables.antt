@@ -1,12 +1,13 @@
 -- Tables and buffers that a loop fills word by word. Assumes nothing.
-use Prim.Native.Nat.{ℕ, zero, suc, _+_, _<_, _≤_}
+use Prim.Native.Nat.{ℕ, zero, suc, _+_, _-_, _<_, _≤_}
 use mathlib.Core.Path.{_≡_, refl, sym, ap, _∙_}
 use mathlib.Core.List.{List, [], _∷_, _++_, append-assoc}
 use mathlib.Core.Bool.{Bool, true, false}
 use native.Mathlib.Omega.{arith}
+use native.Mathlib.Decide.{decLt}
 use native.Mathlib.Numerals.{add-one}
 use lib.ListN.{length, getD, set, take, drop, length-append, length-drop, List·getD-append}
-use lib.Seq.{drop-cons, set-at, take-at, ext-getD}
+use lib.Seq.{drop-cons, set-at, take-at, ext-getD, getD-append-add, getD-drop}
 use Rattle.lists.specs.Counting.{choose, count}
 use Rattle.lists.specs.Tables.{grow, tab, over, onlyIf, chosen, front}
 use Rattle.lists.proofs.Net.{length-grow, grow-solves}
@@ -51,12 +52,28 @@ module _ (f : ℕ → ℕ) (d : List ℕ) where
   pub over-at : (n i : ℕ) → i < n → getD (over n f d) i 0 ≡ f i
   over-at n i h = List·getD-append (tab f n) (drop n d) 0 i (rw (length-tab f n) h) ∙ tab-at f n i h
 
+  -- beyond them it is as it was
+  pub over-rest : (n i : ℕ) → n ≤ i → getD (over n f d) i 0 ≡ getD d i 0
+  over-rest n i h =
+      let e : i ≡ n + (i - n) = omega arith in
+      rw e (ap (λ (m : ℕ). getD (over n f d) (m + (i - n)) 0) (sym (length-tab f n)) ∙ getD-append-add (tab f n) (drop n d) (i - n) 0 ∙ getD-drop n d (i - n) 0)
+
   pub length-over : (n : ℕ) → n ≤ length d → length (over n f d) ≡ length d
   length-over n h = length-append (tab f n) (drop n d) ∙ rw (length-tab f n, length-drop n d) (omega arith)
 
   -- the front of it alone
   pub over-front : (n : ℕ) → take n (over n f d) ≡ tab f n
   over-front n = take-at (tab f n) (drop n d) n (length-tab f n)
+
+-- and a buffer of which that holds is made so
+pub over-is : (f : ℕ → ℕ) (d xs : List ℕ) (n : ℕ) → n ≤ length d → length xs ≡ length d → ((i : ℕ) → i < n → getD xs i 0 ≡ f i)
+    → ((i : ℕ) → n ≤ i → getD xs i 0 ≡ getD d i 0) → xs ≡ over n f d
+over-is f d xs n l e p q =
+    ext-getD 0 xs (over n f d) (e ∙ sym (length-over f d n l)) (λ i h.
+    elim (decLt i n) [
+      | yes m ↦ p i m ∙ sym (over-at f d n i m)
+      | no m ↦ q i (omega arith) ∙ sym (over-rest f d n i (omega arith))
+    ])
 
 -- two rules that agree below n make one buffer
 pub over-same : (f g : ℕ → ℕ) (d : List ℕ) (n : ℕ) → ((i : ℕ) → i < n → f i ≡ g i) → over n f d ≡ over n g d

@@ -6,14 +6,14 @@ use mathlib.Core.Bool.{Bool, true, false, not, _||_}
 use native.Mathlib.Omega.{arith}
 use native.Mathlib.Decide.{ℕ-discrete, decLt}
 use native.Mathlib.Numerals.{add-one}
-use lib.ListN.{length, getD, set, drop, replicate, length-set, length-replicate}
-use lib.Seq.{getD-set-same, getD-set-other, getD-append-add, getD-drop}
+use lib.ListN.{length, getD, set, replicate, length-set, length-replicate}
+use lib.Seq.{getD-set-same, getD-set-other}
 use lib.Dec.{eqb}
 use borrow.Author.Tests.{eq-eqb, ne-eqb}
 use Rattle.lists.specs.Counting.{choose, some-below}
-use Rattle.lists.specs.Tables.{tab, over, always}
+use Rattle.lists.specs.Tables.{over, always}
 use Rattle.lists.proofs.Tests.{some-same, some-has}
-use Rattle.lists.proofs.Tables.{length-tab, over-at, length-over}
+use Rattle.lists.proofs.Tables.{over-at, over-rest, length-over}
 use Rattle.word32.specs.Fields.{exitOf}
 use Rattle.answers.specs.declared.Rule.{Rule}
 use Rattle.answers.specs.declared.Verdict.{Verdict}
@@ -133,10 +133,6 @@ blank-again n t l e z = record {
   long = length-over (always 0) t n (omega arith) ∙ e;
   zeros = λ i. elim (decLt i n) [
     | yes h ↦ over-at (always 0) t n i h
-    | no out ↦
-        let a : i ≡ length (tab (always 0) n) + (i - n) = omega (arith, length-tab (always 0) n) in
-        let b : n + (i - n) ≡ i = omega arith in
-        ap (λ (j : ℕ). getD (over n (always 0) t) j 0) a ∙ getD-append-add (tab (always 0) n) (drop n t) (i - n) 0
-        ∙ getD-drop n t (i - n) 0 ∙ ap (λ (j : ℕ). getD t j 0) b ∙ z i (omega arith)
+    | no out ↦ over-rest (always 0) t n i (omega arith) ∙ z i (omega arith)
   ];
 }

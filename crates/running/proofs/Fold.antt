@@ -2,7 +2,8 @@
 use Prim.Native.Nat.{ℕ, zero, suc, _+_, _*_, _/_, _%_, _<_, _≤_}
 use mathlib.Core.Path.{_≡_, refl, sym, ap, _∙_}
 use mathlib.Core.List.{List}
-use mathlib.Core.Bool.{Bool, true, false, not, _&&_, false≢true}
+use mathlib.Core.Bool.{Bool, true, false, not, _&&_}
+use mathlib.Mathlib.Data.Bool.Basic.{and-elim-left}
 use native.Mathlib.Omega.{arith}
 use native.Mathlib.Decide.{ℕ-discrete, decLt}
 use native.Mathlib.Nat.{add-zero}
@@ -81,10 +82,6 @@ found-put us n p d m h l e = elim (decLt d 2) [
   | no b ↦ rw (le-ltb d 2 (omega arith), add-zero) e
 ]
 
-and-left : (a b : Bool) → a && b ≡ true → a ≡ true
-and-left true b e = refl
-and-left false b e = absurd (false≢true e)
-
 module _ {t : ℕ} where
   pub found-more : {xs us ys vs : List ℕ} {n p d m r : ℕ} → Put t p d xs us m ys vs r → p < n → 2 * n ≤ length us → m ≡ found us (2 * n) → r ≡ found vs (2 * n)
   found-more {xs} {us} {ys} {vs} {n} {p} {d} {m} {r} s h l e = s .number ∙ rw (s .tallies) (found-put us n p d m h l e)
@@ -100,7 +97,7 @@ module _ {t : ℕ} where
 
     off : (i : ℕ) → (d < 2 → i ≡ f → ⊥) → (getD zs i 0 ≡ getD ys i 0) × (getD ws i 0 ≡ getD vs i 0)
     off i o = (
-      rw (w .marks) (put-other ys f (0xE0000000 + t) (ltb d 2 && eqb (getD vs f 0) 0) i (λ b. o (ltb-true d 2 (and-left (ltb d 2) (eqb (getD vs f 0) 0) b)))),
+      rw (w .marks) (put-other ys f (0xE0000000 + t) (ltb d 2 && eqb (getD vs f 0) 0) i (λ b. o (ltb-true d 2 (and-elim-left (ltb d 2) (eqb (getD vs f 0) 0) b)))),
       rw (w .tallies) (put-other vs f (getD vs f 0 + 1) (ltb d 2) i (λ b. o (ltb-true d 2 b))),
     )
 
