@@ -2,9 +2,11 @@
  *
  *   peers MODE [--repeat N] [--first K] [--quiet] < card-and-vectors
  *
- * serial  every fault re-evaluated for every vector
- * path    one vector at a time by the marking rules, event-driven
- * ppsfp   64 vectors a word, flips of stems propagated event-driven
+ * serial   every fault re-evaluated for every vector
+ * path     one vector at a time by the marking rules, event-driven
+ * ppsfp    64 vectors a word, flips of stems propagated event-driven
+ * full     one vector at a time, the change walk of every graph gone to its end
+ * stopped  the same, each walk ended at the first observable graph that changes
  *
  * Reads cardgrade's input, writes cardgrade's output.  To stderr: the mode, the
  * best and the mean time of the grading (from checked words in memory to marks
@@ -12,6 +14,11 @@
  * reader lists); all processor time, by clock_gettime.  --first K grades only
  * the first K vectors; --quiet prints no fault lines.  Built with -DSTATS it
  * also tells how many stems and graph evaluations there were.
+ *
+ * full and stopped differ in nothing else and have no other shortcut.  They also
+ * tell how many graphs are observable and how many were walked again in one run;
+ * full, besides, how many of them up to the first observable one that changed,
+ * which is what stopped walks.
  */
 #define _POSIX_C_SOURCE 200809L
 #include <stdint.h>
@@ -376,6 +383,106 @@ static void run_path(void)
     }
 }
 
+/* ---------------------------------------------------- full and stopped */
+
+static uint64_t readers[MAXG][MAXG / 64];   /* all readers, as a set of graphs */
+static uint64_t walked, upto;               /* graphs walked again in a run */
+
+static void make_readers(void)
+{
+    memset(readers, 0, G * sizeof readers[0]);
+    for (int j = 0; j < N; j++)
+        readers[nd[j].read][nd[j].graph >> 6] |= (uint64_t)1 << (nd[j].graph & 63);
+}
+
+static void not_rising(int g)
+{
+    fprintf(stderr, "the change list of graph %d is not rising\n", g);
+    exit(1);
+}
+
+/* the change walk of g: is an observable graph on its change list?  With stop it ends
+ * at the first one; the rest is the same, checks and counts too, so that the times
+ * differ by the stop alone */
+static int change_walk(int g, int stop)
+{
+    uint16_t list[MAXG];
+    uint64_t due[MAXG / 64];
+    int n = 0, hit = 0, again = 0, until = 0;
+    int wi = g >> 6, words = (G + 63) / 64;
+    memcpy(due, readers[g], words * sizeof due[0]);
+    fal[g] = !val[g];
+    list[n++] = g;
+    while (wi < words) {
+        if (!due[wi]) {
+            wi++;       /* for good: readers are above what they read */
+            continue;
+        }
+        int h = (wi << 6) + __builtin_ctzll(due[wi]);
+        due[wi] &= due[wi] - 1;
+        again++;
+        until += !hit;
+        if (walk(h, fal) == val[h])
+            continue;
+        if (h <= list[n - 1])
+            not_rising(g);
+        fal[h] = !val[h];
+        list[n++] = h;
+        hit |= kind[h] == 2;
+        if (hit && stop)
+            break;
+        for (int w = wi; w < words; w++)
+            due[w] |= readers[h][w];
+    }
+    walked += again;
+    upto += until;
+    while (n)
+        n--, fal[list[n]] = val[list[n]];
+    return hit;
+}
+
+/* the fault of a critical graph, and those of its active nodes whose exits differ */
+static void mark_critical(int g, int v)
+{
+    const node_t *n = nd + gfirst[g];
+    mark(2 * N + 2 * g + !val[g], v);
+    for (unsigned e = g < M ? 0 : 2; e >= 2;) {
+        const node_t *p = n + e - 2;
+        unsigned d = val[p->read];
+        if (walk_from(n, p->e[!d], val) != val[g])
+            mark(2 * (p - nd) + !d, v);
+        e = p->e[d];
+    }
+}
+
+static void run_walks(int stop)
+{
+    walked = upto = 0;
+    make_readers();
+    for (int v = 0; v < V; v++) {
+        load_vector(v, val);
+        for (int g = M; g < G; g++)
+            val[g] = walk(g, val);
+        memcpy(fal, val, G);
+        for (int g = 0; g < G; g++)
+            if (kind[g] == 2 || change_walk(g, stop))
+                mark_critical(g, v);
+    }
+}
+
+static void run_full(void) { run_walks(0); }
+static void run_stopped(void) { run_walks(1); }
+
+static void tell_walked(int full)
+{
+    int observable = 0;
+    for (int g = 0; g < G; g++)
+        observable += kind[g] == 2;
+    fprintf(stderr, " observable %d walked %llu", observable, (unsigned long long)walked);
+    if (full)
+        fprintf(stderr, " upto %llu", (unsigned long long)upto);
+}
+
 /* --------------------------------------------------------------- ppsfp */
 
 /* 64 vectors of up to 64 inputs turned over: row v becomes column v */
@@ -436,6 +543,7 @@ int main(int argc, char **argv)
 {
     static const struct { const char *name; void (*run)(void); } mode[] = {
         { "serial", run_serial }, { "path", run_path }, { "ppsfp", run_64 },
+        { "full", run_full }, { "stopped", run_stopped },
     };
     int m = -1, repeat = 1, cut = -1, quiet = 0;
     for (int i = 1; i < argc; i++) {
@@ -451,7 +559,8 @@ int main(int argc, char **argv)
                     m = k;
     }
     if (m < 0 || repeat < 1) {
-        fprintf(stderr, "usage: peers serial|path|ppsfp [--repeat N] [--first K] [--quiet] < input\n");
+        fprintf(stderr, "usage: peers serial|path|ppsfp|full|stopped"
+                        " [--repeat N] [--first K] [--quiet] < input\n");
         return 2;
     }
     read_input();
@@ -485,8 +594,11 @@ int main(int argc, char **argv)
             printf("%d %d %u\n", f, (int)first[f], (unsigned)tally[f]);
     printf("grade %d %d\n", marked, F);
     fprintf(stderr, "%s best_ns %.0f mean_ns %.0f setup_ns %.0f repeat %d vectors %d"
-                    " node_faults_marked %d of %d\n",
+                    " node_faults_marked %d of %d",
             mode[m].name, best, sum / repeat, setup, repeat, V, nmarked, 2 * N);
+    if (mode[m].run == run_full || mode[m].run == run_stopped)
+        tell_walked(mode[m].run == run_full);
+    fputc('\n', stderr);
 #ifdef STATS
     fprintf(stderr, "stems %.1f events %.1f evals %.1f per repeat\n",
             (double)nstems / repeat, (double)nevents / repeat, (double)nevals / repeat);
