@@ -440,10 +440,13 @@ def random_graph(rng, n, later=0.3, degenerate=False, bushy=0.0):
     return ex
 
 
-def random_card(seed, inputs, graphs, nodes, pick, observed, bushy=0.0, parity=0.0):
+def random_card(seed, inputs, graphs, nodes, pick, observed, bushy=0.0, parity=0.0,
+                spread=0):
     """pick(rng, g) names a graph below g; the last `observed` graphs are
     observable.  `parity` is the share of graphs of 3, 5, ... nodes that become
-    the exclusive-or of 2, 3, ... graphs, which every flip passes."""
+    the exclusive-or of 2, 3, ... graphs, which every flip passes.  `spread`, if
+    not 0, makes one in so many of the graphs that are not inputs observable
+    besides, evenly by number."""
     rng = random.Random(seed)
     outs = graphs - inputs
     size = [nodes // outs + (i < nodes % outs) for i in range(outs)]
@@ -472,7 +475,7 @@ def random_card(seed, inputs, graphs, nodes, pick, observed, bushy=0.0, parity=0
                        else [(0, 1), (1, 0)])
                 reads[k + 1] = reads[k]
         card.add([(r, e[0], e[1]) for r, e in zip(reads, ex)],
-                 i >= outs - observed)
+                 i >= outs - observed or (spread > 0 and i % spread == spread - 1))
     return card
 
 
@@ -516,12 +519,14 @@ def any_pick(rng, g):
 
 
 RANDOM = {
-    # name: (seed, inputs, graphs, nodes, pick, observables, bushy, parity)
+    # name: (seed, inputs, graphs, nodes, pick, observables, bushy, parity, spread)
     "rand-deep": (11, 32, 1024, 4000, deep_pick(12, 32, 0.10), 4, 0.7, 1.0),
     "rand-deeper": (12, 16, 1024, 4000, deep_pick(5, 16, 0.15), 1, 0.0, 1.0),
     "rand-chaos": (11, 32, 1024, 4000, deep_pick(24, 32, 0.10), 4, 0.7, 0.3),
     "rand-wide": (13, 128, 1024, 4000, wide_pick(128, 112, 1024), 16, 0.3, 0.1),
     "rand-wider": (14, 256, 1024, 4000, wide_pick(256, 224, 1024), 32, 0.3, 0.1),
+    # as rand-wide, but one in sixteen observable as well, seven in every layer
+    "rand-spread": (18, 128, 1024, 4000, wide_pick(128, 112, 1024), 16, 0.3, 0.1, 16),
     "rand-funnel": (15, 128, 1024, 4000, funnel_pick(128, 1024), 2, 0.3, 0.3),
     "rand-any": (16, 64, 1024, 4000, any_pick, 8, 0.3, 0.3),
     "rand-bulky": (17, 32, 160, 4000, deep_pick(40, 32, 0.2), 4),
@@ -589,8 +594,8 @@ BENCH = [
     ("mult13", 4096), ("nmult16", 4096),
     ("rand-deep", 4096), ("rand-deeper", 4096), ("rand-chaos", 4096),
     ("rand-wide", 2048),
-    ("rand-wider", 1024), ("rand-funnel", 2048), ("rand-any", 4096),
-    ("rand-bulky", 4096), ("worst", 4096),
+    ("rand-wider", 1024), ("rand-spread", 2048), ("rand-funnel", 2048),
+    ("rand-any", 4096), ("rand-bulky", 4096), ("worst", 4096),
 ]
 
 
