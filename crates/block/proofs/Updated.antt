@@ -53,7 +53,7 @@ module _ {ws : List ℕ} {c : Counts} (a : Shape ws c) (x : List ℕ) where
       rw (graph-caught a x g h v, graph-told a x g d h b) (opposite-is (critical ws c x g) (goodValue ws c x g) d v b)
 
   -- so the word of a place does, whichever graph it is of
-  module _ {cs : List ℕ} (w : Told ws c x (c .graphs) cs) where
+  module _ {cs : List ℕ} (w : Told ws c x 0 cs) where
     caught-is : (p d : ℕ) → p < c .nodes + c .graphs → d < 2 → eqb (getD cs p 0) d ≡ detects ws c x (2 * p + d)
     caught-is p d h b = elim (decLt p (c .nodes)) [
       | yes l ↦
@@ -62,12 +62,12 @@ module _ {ws : List ℕ} {c : Counts} (a : Shape ws c) (x : List ℕ) where
           let k = p - first ws g in
           let m : k < size ws g = omega (arith, o .1, o .2) in
           let e : first ws g + k ≡ p = omega (arith, o .1) in
-          rw e at (ap (λ (r : ℕ). eqb r d) (w .nodes g k (o .0) m) ∙ node-detects g k d (o .0) m b)
+          rw e at (ap (λ (r : ℕ). eqb r d) (w .nodes g k (omega arith) (o .0) m) ∙ node-detects g k d (o .0) m b)
       | no n ↦
           let g = p - c .nodes in
           let l : g < c .graphs = omega arith in
           let e : c .nodes + g ≡ p = omega arith in
-          rw e at (ap (λ (r : ℕ). eqb r d) (w .graphs g l) ∙ graph-detects g d l b)
+          rw e at (ap (λ (r : ℕ). eqb r d) (w .graphs g (omega arith) l) ∙ graph-detects g d l b)
     ]
 
     -- ONE VECTOR: the mark and the tally of each fault by whether the vector catches it

@@ -43,7 +43,7 @@ pub fn take_block(
     ensures { λ q. ⌜ TookIn (now (card .entry)) c (now (vectors .entry)) (now (marks .entry)) (now (tallies .entry)) (now (marks .exit)) (now (tallies .exit)) r q ⌝ }
 {
     let mut values = layout::place_table();
-    let mut flips = layout::graph_table();
+    let mut walk = critical::walk_room();
     let mut caught = layout::place_table();
     let n = testvectors::count_vectors(c.inputs, vectors);
     let all = c.nodes + c.graphs;
@@ -51,15 +51,7 @@ pub fn take_block(
     let mut i = 0;
     while i < n {
         let vector = testvectors::vector_at(c.inputs, vectors, i);
-        catches::catch_vector(
-            card,
-            c,
-            tables,
-            vector,
-            &mut values,
-            &mut flips,
-            &mut caught,
-        );
+        catches::catch_vector(card, c, tables, vector, &mut values, &mut walk, &mut caught);
         q = q.take_in(all, &caught, marks, tallies);
         i += 1;
     }

@@ -83,24 +83,24 @@ module _ {ws : List ℕ} {c : Counts} {x : List ℕ} {g : ℕ} where
   pub along-then : {k m : ℕ} {xs ys zs : List ℕ} → Along ws c x g k xs ys → Along ws c x g m ys zs → Along ws c x g m xs zs
   along-then s r = record { long = r .long ∙ s .long; below = r .below; onward = r .onward; outside = λ j n. r .outside j n ∙ s .outside j n }
 
--- the graph's own word, after those of its nodes, and the graphs before it
-pub told-more : {ws : List ℕ} {c : Counts} → Shape ws c → {x xs ys zs : List ℕ} {g u : ℕ} → g < c .graphs → Told ws c x g xs → Along ws c x g (size ws g) xs ys
-    → zs ≡ set ys (c .nodes + g) u → u ≡ caughtAt ws c x (c .nodes + g) → Told ws c x (g + 1) zs
+-- the graph's own word, after those of its nodes, and the graphs above it
+pub told-more : {ws : List ℕ} {c : Counts} → Shape ws c → {x xs ys zs : List ℕ} {g u : ℕ} → g < c .graphs → Told ws c x (g + 1) xs → Along ws c x g (size ws g) xs ys
+    → zs ≡ set ys (c .nodes + g) u → u ≡ caughtAt ws c x (c .nodes + g) → Told ws c x g zs
 told-more {ws} {c} a {x} {xs} {ys} {zs} {g} {u} h t s z e = rw z (record {
   long = simp length-set (omega (arith, t .long, s .long));
-  nodes = λ i k p q.
-      getD-set-other ys (c .nodes + g) (first ws i + k) u 0 (λ o. omega (arith, node-below a i k (omega arith) q))
+  nodes = λ i k p r q.
+      getD-set-other ys (c .nodes + g) (first ws i + k) u 0 (λ o. omega (arith, node-below a i k r q))
       ∙ elim (ℕ-discrete i g) [
         | yes j ↦ rw j (s .below k (rw j at q) (rw j at q))
-        | no n ↦ s .outside (first ws i + k) (λ m b o. apart ws i g k m (λ w. n (sym w)) q b o) ∙ t .nodes i k (omega arith) q
+        | no n ↦ s .outside (first ws i + k) (λ m b o. apart ws i g k m (λ w. n (sym w)) q b o) ∙ t .nodes i k (omega arith) r q
       ];
-  graphs = λ i p. elim (ℕ-discrete i g) [
+  graphs = λ i p r. elim (ℕ-discrete i g) [
     | yes j ↦ rw j (getD-set-same ys (c .nodes + g) u 0 (omega (arith, t .long, s .long)) ∙ e)
     | no n ↦
         getD-set-other ys (c .nodes + g) (c .nodes + i) u 0 (λ o. n (omega arith))
-        ∙ s .outside (c .nodes + i) (λ m b o. omega (arith, node-below a g m h b)) ∙ t .graphs i (omega arith)
+        ∙ s .outside (c .nodes + i) (λ m b o. omega (arith, node-below a g m h b)) ∙ t .graphs i (omega arith) r
   ];
 })
 
-pub told-none : {ws : List ℕ} {c : Counts} {x xs : List ℕ} → c .nodes + c .graphs ≤ length xs → Told ws c x 0 xs
-told-none l = record { long = l; nodes = λ g k h i. absurd (omega arith); graphs = λ g h. absurd (omega arith) }
+pub told-none : {ws : List ℕ} {c : Counts} {x xs : List ℕ} → c .nodes + c .graphs ≤ length xs → Told ws c x (c .graphs) xs
+told-none l = record { long = l; nodes = λ g k p h i. absurd (omega arith); graphs = λ g p h. absurd (omega arith) }

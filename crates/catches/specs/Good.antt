@@ -13,7 +13,7 @@ pub record Bits (c : Counts) (xs : List ℕ) : Type 0 where
   pub long : c .nodes + c .graphs ≤ length xs
   pub bit : (g : ℕ) → g < c .graphs → getD xs (c .nodes + g) 0 < 2
 
--- the first n graphs and their nodes are done: what is caught there; the buffer of flips has the good values
-pub record Caught (ws : List ℕ) (c : Counts) (x : List ℕ) (n : ℕ) (flips caught : List ℕ) : Type 0 where
-  pub flat : Has (value ws c good x) (c .graphs) flips
+-- the graphs from n on and their nodes are done: what is caught there; the buffer of walks has the good values
+pub record Caught (ws : List ℕ) (c : Counts) (x : List ℕ) (n : ℕ) (walk caught : List ℕ) : Type 0 where
+  pub flat : Has (value ws c good x) (c .graphs) walk
   pub told : Told ws c x n caught

@@ -7,14 +7,14 @@ use Rattle.answers.specs.declared.Counts.{Counts}
 use Rattle.layout.specs.Layout.{first, size}
 use Rattle.catches.specs.Caught.{caughtAt}
 
--- the words of the first n graphs and of their nodes: node j's at j, graph g's at N + g
+-- the words of the graphs from n on and of their nodes: node j's at j, graph g's at N + g
 pub record Told (ws : List ℕ) (c : Counts) (x : List ℕ) (n : ℕ) (xs : List ℕ) : Type 0 where
   pub long : c .nodes + c .graphs ≤ length xs
-  pub nodes : (g k : ℕ) → g < n → k < size ws g → getD xs (first ws g + k) 0 ≡ caughtAt ws c x (first ws g + k)
-  pub graphs : (g : ℕ) → g < n → getD xs (c .nodes + g) 0 ≡ caughtAt ws c x (c .nodes + g)
+  pub nodes : (g k : ℕ) → n ≤ g → g < c .graphs → k < size ws g → getD xs (first ws g + k) 0 ≡ caughtAt ws c x (first ws g + k)
+  pub graphs : (g : ℕ) → n ≤ g → g < c .graphs → getD xs (c .nodes + g) 0 ≡ caughtAt ws c x (c .nodes + g)
 
--- room for one vector: good values, flipped values, what is caught
-pub record Room (c : Counts) (values flips caught : List ℕ) : Type 0 where
+-- room for one vector: good values, a walk, what is caught
+pub record Room (c : Counts) (values walk caught : List ℕ) : Type 0 where
   pub values-long : c .nodes + c .graphs ≤ length values
-  pub flips-long : c .graphs ≤ length flips
+  pub walk-long : 2080 ≤ length walk
   pub caught-long : c .nodes + c .graphs ≤ length caught

@@ -10,9 +10,11 @@ ghost use Rattle.word32.specs.Fields.{exitOf};
 ghost use Rattle.layout.specs.Layout.{size};
 ghost use Rattle.layout.specs.Tables.{Ready, Tabled};
 ghost use Rattle.testvectors.specs.Vectors.{width};
-ghost use Rattle.value.specs.Values.{follow};
+ghost use Rattle.value.specs.Settings.{good};
+ghost use Rattle.value.specs.Values.{follow, value};
 ghost use Rattle.rules.specs.Rules.{critical};
 ghost use Rattle.sweep.specs.Swept.{Swept};
+ghost use Rattle.change.specs.Flips.{Has};
 ghost use Rattle.catches.specs.Good.{Bits, Caught};
 ghost use Rattle.catches.specs.Words.{Cleared, Along};
 ghost use Rattle.catches.specs.Told.{Told, Room};
@@ -112,45 +114,70 @@ fn caught_whole(v: u32, alters: bool) -> u32
     2
 }
 
-// Graph g and its nodes. The buffer of flips has the good values before and after.
+// Whether graph g is critical, where the graphs above it are done. Where it is not observable and one node alone reads it, what is caught there tells.
+fn is_altering(
+    card: &[u32],
+    c: Counts,
+    tables: &[u32],
+    values: &[u32],
+    g: usize,
+    walk: &mut [u32],
+    caught: &[u32],
+) -> bool
+    requires { ⌜ Tabled (now card) c (now tables) × (c .nodes + c .graphs ≤ length (now values)) × (g < c .graphs) × (2080 ≤ length (now walk)) × (getD (now walk) g 0 < 2)
+        × (c .nodes ≤ length (now caught)) ⌝ }
+    ensures { λ r. ⌜ ((x : List ℕ) → Swept (now (card .entry)) c x (c .graphs) (now (values .entry)) → Caught (now (card .entry)) c x (g + 1) (now (walk .entry)) (now (caught .entry))
+        → (r ≡ critical (now (card .entry)) c x g) × Has (value (now (card .entry)) c good x) (c .graphs) (now (walk .exit))) ⌝ }
+{
+    if layout::is_observable(card, tables, g) {
+        return true;
+    }
+    let sole = layout::sole_reader(tables, g);
+    if layout::is_sole(sole) {
+        return lists::get(caught, sole as usize - 1) < 2;
+    }
+    critical::is_critical(card, c, tables, values, g, walk)
+}
+
+// Graph g and its nodes, where the graphs above it are done. The buffer of walks has the good values before and after.
 fn catch_graph(
     card: &[u32],
     c: Counts,
-    tables: &layout::Tables,
+    tables: &[u32],
     values: &[u32],
     g: usize,
-    flips: &mut [u32],
+    walk: &mut [u32],
     caught: &mut [u32],
 )
-    requires { ⌜ Tabled (now card) c (now tables) × Bits c (now values) × (g < c .graphs) × (c .graphs ≤ length (now flips)) × (getD (now flips) g 0 < 2)
+    requires { ⌜ Tabled (now card) c (now tables) × Bits c (now values) × (g < c .graphs) × (2080 ≤ length (now walk)) × (getD (now walk) g 0 < 2)
         × (c .nodes + c .graphs ≤ length (now caught)) ⌝ }
-    ensures { λ _. ⌜ ((x : List ℕ) → Swept (now (card .entry)) c x (c .graphs) (now (values .entry)) → Caught (now (card .entry)) c x g (now (flips .entry)) (now (caught .entry))
-        → Caught (now (card .entry)) c x (g + 1) (now (flips .exit)) (now (caught .exit))) ⌝ }
+    ensures { λ _. ⌜ ((x : List ℕ) → Swept (now (card .entry)) c x (c .graphs) (now (values .entry)) → Caught (now (card .entry)) c x (g + 1) (now (walk .entry)) (now (caught .entry))
+        → Caught (now (card .entry)) c x g (now (walk .exit)) (now (caught .exit))) ⌝ }
 {
-    let alters = critical::is_critical(card, c, tables, values, g, flips);
-    catch_nodes(card, c, &tables[layout::FIRSTS], values, g, alters, caught);
+    let alters = is_altering(card, c, tables, values, g, walk, caught);
+    catch_nodes(card, c, tables, values, g, alters, caught);
     let v = lists::get(values, c.nodes + g);
     lists::put(caught, c.nodes + g, caught_whole(v, alters));
 }
 
-// What one vector catches, at all graphs and their nodes.
+// What one vector catches, at all graphs and their nodes: from the last graph down, so that what is caught at a graph's readers is known.
 pub fn catch_vector(
     card: &[u32],
     c: Counts,
-    tables: &layout::Tables,
+    tables: &[u32],
     vector: &[u32],
     values: &mut [u32],
-    flips: &mut [u32],
+    walk: &mut [u32],
     caught: &mut [u32],
 )
-    requires { ⌜ Tabled (now card) c (now tables) × (width (c .inputs) ≤ length (now vector)) × Room c (now values) (now flips) (now caught) ⌝ }
-    ensures { λ _. ⌜ Told (now (card .entry)) c (now (vector .entry)) (c .graphs) (now (caught .exit)) ⌝ }
+    requires { ⌜ Tabled (now card) c (now tables) × (width (c .inputs) ≤ length (now vector)) × Room c (now values) (now walk) (now caught) ⌝ }
+    ensures { λ _. ⌜ Told (now (card .entry)) c (now (vector .entry)) 0 (now (caught .exit)) ⌝ }
 {
-    sweep::sweep(card, c, &tables[layout::FIRSTS], vector, values);
-    change::restore(c, values, flips);
-    let mut g = 0;
-    while g < c.graphs {
-        catch_graph(card, c, tables, values, g, flips, caught);
-        g += 1;
+    sweep::sweep(card, c, tables, vector, values);
+    change::restore(c, values, walk);
+    let mut g = c.graphs;
+    while 0 < g {
+        g -= 1;
+        catch_graph(card, c, tables, values, g, walk, caught);
     }
 }

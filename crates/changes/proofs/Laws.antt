@@ -8,9 +8,9 @@ use native.Mathlib.Numerals.{add-one}
 use lib.ListN.{length, getD}
 use lib.Dec.{eqb}
 use borrow.Author.Tests.{ltb-false, leb-false}
-use Rattle.lists.specs.Counting.{choose, count}
+use Rattle.lists.specs.Counting.{count}
 use Rattle.lists.specs.Tables.{chosen, front}
-use Rattle.lists.proofs.Counting.{count-next, count-le}
+use Rattle.lists.proofs.Counting.{count-le}
 use Rattle.lists.proofs.Tables.{length-chosen, front-more}
 use Rattle.answers.specs.declared.Counts.{Counts}
 use Rattle.answers.specs.declared.Verdict.the-variants.{Sound}
@@ -32,9 +32,6 @@ pub chosen-more : (p : ℕ → Bool) (d : List ℕ) (h : ℕ) (b : Bool) → p h
 unfolding chosen
 chosen-more p d h true e l = rw (add-one, e) (front-more (chosen p h) d (count p h) h (length-chosen p h) (omega (arith, count-le p h)))
 chosen-more p d h false e l = rw (add-one, e) (ap (λ (r : List ℕ). front r d) (sym (append-nil (chosen p h))))
-
-pub count-more : (p : ℕ → Bool) (h : ℕ) (b : Bool) → p h ≡ b → count p h + choose b 1 0 ≡ count p (h + 1)
-count-more p h b e = rw (add-one, count-next p h, e)
 
 -- the graphs whose words differ from their good values are those that are listed
 pub listed-is : {ws x values flips : List ℕ} {c : Counts} (g : ℕ) → Swept ws c x (c .graphs) values → Has (flipped ws c x g) (c .graphs) flips

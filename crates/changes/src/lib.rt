@@ -131,7 +131,7 @@ pub fn work_out_critical(card: &[u32], c: Counts, vector: &[u32], nodes: &mut [u
 {
     let tables = layout::make_tables(card, c);
     let mut values = layout::place_table();
-    let mut flips = layout::graph_table();
+    let mut walk = critical::walk_room();
     let mut caught = layout::place_table();
     catches::catch_vector(
         card,
@@ -139,7 +139,7 @@ pub fn work_out_critical(card: &[u32], c: Counts, vector: &[u32], nodes: &mut [u
         &tables,
         vector,
         &mut values,
-        &mut flips,
+        &mut walk,
         &mut caught,
     );
     flag_places(&caught, c.nodes, nodes)

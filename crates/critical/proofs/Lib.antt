@@ -1,3 +1,3 @@
--- What the proofs of the fast change walk cite.
-
-pub mod Laws
+-- What the proofs of the stopped walk cite: its end, and its steps.
+pub mod Ends
+pub mod Steps

@@ -1,60 +1,78 @@
--- What the fast change walk keeps: it starts at the lowest reader of its graph and ends past the highest reader of the listed ones. No contract of a call
--- cites it. Assumes nothing.
-use Prim.Native.Nat.{ℕ, _+_, _<_, _≤_}
+-- What a change walk that stops keeps and leaves. Its buffer has the graphs' values, from word 1024 on its list, and from word 2048 on the set of the
+-- graphs that are due. No contract of a call cites it. Assumes nothing.
+use Prim.Native.Nat.{ℕ, _+_, _-_, _<_, _≤_}
 use mathlib.Core.Path.{_≡_}
 use mathlib.Core.List.{List}
-use mathlib.Core.Bool.{true}
+use mathlib.Core.Bool.{Bool, true, false, not, _&&_}
 use lib.ListN.{length, getD}
+use lib.Dec.{eqb}
+use Rattle.lists.specs.Counting.{choose, count}
+use Rattle.bitset.specs.Members.{member}
 use Rattle.answers.specs.declared.Counts.{Counts}
 use Rattle.layout.specs.Layout.{size, reads, observable}
+use Rattle.layout.specs.Tables.{readersOf}
 use Rattle.value.specs.Settings.{good}
 use Rattle.value.specs.Values.{value}
-use Rattle.rules.specs.Rules.{flipped, critical}
+use Rattle.rules.specs.Rules.{flipped, listed}
+use Rattle.rules.specs.Stopped.{stopped}
 use Rattle.change.specs.Flips.{Between}
 
--- r is above g, and no more than the first of n graphs above g that is not below `low`
-pub record From (n g low r : ℕ) : Type 0 where
-  pub above : g < r
-  pub inside : r ≤ n
-  pub past : (i : ℕ) → g < i → i < n → low ≤ i → r ≤ i
+abbrev pub listFrom : ℕ
+listFrom = 1024
 
--- r is no less than `limit`, and above all of n graphs up to `high`
-pub record Upto (n limit high r : ℕ) : Type 0 where
-  pub more : limit ≤ r
-  pub inside : r ≤ n
-  pub past : (i : ℕ) → i < n → i ≤ high → i < r
+abbrev pub dueFrom : ℕ
+dueFrom = 2048
 
--- r, where the walk goes on after h, is one more, or as far as the lowest reader of h where no node from h + 1 on reads a graph that was listed before h
-pub record Next (n h before low r : ℕ) : Type 0 where
-  pub above : h < r
-  pub inside : r ≤ n
-  pub past : (i : ℕ) → h < i → i < r → i < n → (before ≤ i) × (i < low)
+-- n numbers are listed, at least one, each below G
+pub record Entries (G n : ℕ) (xs : List ℕ) : Type 0 where
+  pub some : 0 < n
+  pub inside : (e : ℕ) → e < n → getD xs (listFrom + e) 0 < G
 
--- no graph below `start` is listed in the change walk of g but g itself
-pub record Quiet (ws : List ℕ) (c : Counts) (x : List ℕ) (g start : ℕ) : Type 0 where
-  pub same : (i : ℕ) → i < start → i < c .graphs → (i ≡ g → ⊥) → flipped ws c x g i ≡ value ws c good x i
+-- none of the n listed graphs is observable
+pub record Hidden (ws : List ℕ) (n : ℕ) (xs : List ℕ) : Type 0 where
+  pub hidden : (e : ℕ) → e < n → observable ws (getD xs (listFrom + e) 0) ≡ false
 
--- The walk of g is at h: no observable graph below h is listed, and from `limit` on no node reads a listed graph below h.
-pub record Walking (ws : List ℕ) (c : Counts) (x : List ℕ) (g h limit : ℕ) (xs : List ℕ) : Type 0 where
+-- xs becomes ys: graph h has the value v, is number n of the list, and its readers are due
+pub record Lists (c : Counts) (tables : List ℕ) (h v n : ℕ) (xs ys : List ℕ) : Type 0 where
+  pub here : getD ys h 0 ≡ v
+  pub off : (i : ℕ) → i < 1024 → (i ≡ h → ⊥) → getD ys i 0 ≡ getD xs i 0
+  pub entry : getD ys (listFrom + n) 0 ≡ h
+  pub entries : (e : ℕ) → e < 1024 → (e ≡ n → ⊥) → getD ys (listFrom + e) 0 ≡ getD xs (listFrom + e) 0
+  pub kept : (j : ℕ) → member xs dueFrom j ≤ member ys dueFrom j
+  pub due : (j : ℕ) → h ≤ j → j < c .graphs → member tables (readersOf h) j ≤ member ys dueFrom j
+
+-- THE STOPPED WALK of graph g has ended: the graphs of its stopped list are flipped and no others, and the n of them are listed, rising: the one that has
+-- k of them below it at place k.
+pub record Stops (ws : List ℕ) (c : Counts) (x : List ℕ) (g n : ℕ) (xs : List ℕ) : Type 0 where
+  pub flips : (h : ℕ) → h < c .graphs → getD xs h 0 ≡ choose (stopped ws c x g h) (1 - value ws c good x h) (value ws c good x h)
+  pub number : n ≡ count (stopped ws c x g) (c .graphs)
+  pub place : (h : ℕ) → h < c .graphs → stopped ws c x g h ≡ true → getD xs (listFrom + count (stopped ws c x g) h) 0 ≡ h
+
+-- the same of the change list below h
+pub record Upto (ws : List ℕ) (c : Counts) (x : List ℕ) (g h n : ℕ) (xs : List ℕ) : Type 0 where
   pub between : Between (flipped ws c x g) (value ws c good x) (c .graphs) h xs
+  pub number : n ≡ count (listed ws c x g) h
+  pub place : (i : ℕ) → i < h → listed ws c x g i ≡ true → getD xs (listFrom + count (listed ws c x g) i) 0 ≡ i
+
+-- The walk of g has come to h: no observable graph below h is listed, and a graph from h on that reads a listed one below h is due.
+pub record Walking (ws : List ℕ) (c : Counts) (x : List ℕ) (g h n : ℕ) (xs : List ℕ) : Type 0 where
+  pub upto : Upto ws c x g h n xs
   pub above : g < h
-  pub inside : limit ≤ c .graphs
-  pub silent : (i : ℕ) → i < h → i < c .graphs → observable ws i ≡ true → flipped ws c x g i ≡ value ws c good x i
-  pub kept : (j k : ℕ) → limit ≤ j → j < c .graphs → k < size ws j → reads ws j k < h
+  pub inside : h ≤ c .graphs
+  pub silent : (i : ℕ) → i < h → observable ws i ≡ true → flipped ws c x g i ≡ value ws c good x i
+  pub due : (j k : ℕ) → h ≤ j → j < c .graphs → k < size ws j → reads ws j k < h → member xs dueFrom j ≡ 0
       → flipped ws c x g (reads ws j k) ≡ value ws c good x (reads ws j k)
 
--- what a step at h answers: the new limit, or 0 where graph h is observable and listed
-pub record Stepped (ws : List ℕ) (c : Counts) (x : List ℕ) (g h r : ℕ) (xs : List ℕ) : Type 0 where
-  pub seen : r ≡ 0 → (true ≡ critical ws c x g) × Between (flipped ws c x g) (value ws c good x) (c .graphs) h xs
-  pub goes : 0 < r → Walking ws c x g (h + 1) r xs
+-- the walk ends with graph h, after which r graphs are listed and before which n were: it is listed, and observable
+abbrev pub ends : List ℕ → ℕ → ℕ → ℕ → Bool
+ends ws h n r = not (eqb n r) && observable ws h
 
--- of the first n words those below a and from b on are v's, but for that of g
-pub record Apart (v : ℕ → ℕ) (n g a b : ℕ) (xs : List ℕ) : Type 0 where
-  pub long : n ≤ length xs
-  pub low : (i : ℕ) → i < a → i < n → (i ≡ g → ⊥) → getD xs i 0 ≡ v i
-  pub high : (i : ℕ) → b ≤ i → i < n → (i ≡ g → ⊥) → getD xs i 0 ≡ v i
+-- what a step at h leaves
+pub record Stepped (ws : List ℕ) (c : Counts) (x : List ℕ) (g h n r : ℕ) (xs : List ℕ) : Type 0 where
+  pub seen : ends ws h n r ≡ true → Stops ws c x g r xs
+  pub goes : ends ws h n r ≡ false → Walking ws c x g (h + 1) r xs
 
--- all but that of g
-pub record But (v : ℕ → ℕ) (n g : ℕ) (xs : List ℕ) : Type 0 where
-  pub long : n ≤ length xs
-  pub word : (i : ℕ) → i < n → (i ≡ g → ⊥) → getD xs i 0 ≡ v i
+-- each of the first G words is v's, or is that of one of the numbers listed from place e on
+pub record But (v : ℕ → ℕ) (G e n : ℕ) (xs : List ℕ) : Type 0 where
+  pub long : G ≤ length xs
+  pub word : (i : ℕ) → i < G → ((k : ℕ) → e ≤ k → k < n → getD xs (listFrom + k) 0 ≡ i → ⊥) → getD xs i 0 ≡ v i

@@ -1,153 +1,150 @@
-// Whether a graph is critical, by a change walk that leaves out what it can: it starts at the lowest reader of the graph, ends past the highest reader
-// of the listed graphs or at the first observable one among them, and puts back only what it may have altered.
+// Whether a graph is critical, by a change walk that ends at the first observable graph that changes. The walk goes by the sets of readers: a graph that
+// changes makes its readers due, and no graph is walked again that is not due.
 ghost use mathlib.Core.Path.{_≡_};
 ghost use mathlib.Core.List.{List};
+ghost use mathlib.Core.Bool.{false};
 ghost use Prim.Native.Nat.{ℕ, _+_, _≤_, _<_};
 ghost use lib.ListN.{length, getD};
-ghost use Rattle.layout.specs.Tables.{Tabled};
+ghost use Rattle.bitset.specs.Members.{member, Gains};
+ghost use Rattle.layout.specs.Layout.{observable};
+ghost use Rattle.layout.specs.Tables.{readersOf, Walkable, Tabled};
 ghost use Rattle.value.specs.Settings.{good};
 ghost use Rattle.value.specs.Values.{value};
 ghost use Rattle.rules.specs.Rules.{critical};
 ghost use Rattle.sweep.specs.Swept.{Swept};
 ghost use Rattle.change.specs.Flips.{Has};
-ghost use Rattle.critical.specs.Walking.{From, Upto, Next, Quiet, Walking, Stepped, Apart, But};
+ghost use Rattle.critical.specs.Walking.{dueFrom, Hidden, Lists, Entries, Stops, Walking, Stepped, ends, But};
 use answers::Counts;
 
-// Where the walk of graph g starts: at its lowest reader, or at the end where it has none.
-fn start_of(c: Counts, lows: &[u32], g: usize) -> usize
-    requires { ⌜ (g < c .graphs) × (g < length (now lows)) ⌝ }
-    ensures { λ r. ⌜ From (c .graphs) g (getD (now (lows .entry)) g 0) r ⌝ }
+// The buffer of a walk: the graphs' values, then its list, then the set of the graphs that are due.
+pub type Walk = [u32; 2080];
+
+const LIST: usize = 1024;
+
+const DUE: usize = 2048;
+
+// Room for a walk.
+pub fn walk_room() -> Walk
+    ensures { λ r. ⌜ 2080 ≡ length r ⌝ }
 {
-    let low = lists::get(lows, g) as usize;
-    if low <= g {
-        return g + 1;
-    }
-    if low < c.graphs {
-        return low;
-    }
-    c.graphs
+    [0u32; 2080]
 }
 
-// The limit of a walk that has listed graph h: past its highest reader.
-fn limit_of(c: Counts, highs: &[u32], h: usize, limit: usize) -> usize
-    requires { ⌜ (h < length (now highs)) × (limit ≤ c .graphs) ⌝ }
-    ensures { λ r. ⌜ Upto (c .graphs) limit (getD (now (highs .entry)) h 0) r ⌝ }
+// The readers of graph h become due.
+fn note_due(c: Counts, tables: &[u32], h: usize, walk: &mut [u32])
+    requires { ⌜ (h < 1024) × (c .graphs ≤ 1024) × (34848 ≤ length (now tables)) × (2080 ≤ length (now walk)) ⌝ }
+    ensures { λ _. ⌜ Gains dueFrom (now (walk .entry)) (now (walk .exit))
+        × ((j : ℕ) → h ≤ j → j < c .graphs → member (now (tables .entry)) (readersOf h) j ≤ member (now (walk .exit)) dueFrom j) ⌝ }
 {
-    let high = lists::get(highs, h) as usize;
-    if high < limit {
-        return limit;
-    }
-    if high < c.graphs {
-        return high + 1;
-    }
-    c.graphs
+    let row = layout::readers_of(h);
+    bitset::merge(tables, row, h / 32, (c.graphs + 31) / 32, walk, DUE);
 }
 
-// Graph h in the walk of a lower graph: it is walked again. The answer is the new limit, or 0 where h is observable and listed.
-fn step(
-    card: &[u32],
-    c: Counts,
-    tables: &layout::Tables,
-    values: &[u32],
-    h: usize,
-    limit: usize,
-    flips: &mut [u32],
-) -> usize
-    requires { ⌜ Tabled (now card) c (now tables) × (h < limit) × (limit ≤ c .graphs) × (c .nodes + c .graphs ≤ length (now values)) × (c .graphs ≤ length (now flips)) ⌝ }
-    ensures { λ r. ⌜ (r ≤ c .graphs) × ((x : List ℕ) (g : ℕ) → Swept (now (card .entry)) c x (c .graphs) (now (values .entry))
-        → Walking (now (card .entry)) c x g h limit (now (flips .entry)) → Stepped (now (card .entry)) c x g h r (now (flips .exit))) ⌝ }
+// Graph h has the value v, is number n of the list, and its readers are due.
+fn list_graph(c: Counts, tables: &[u32], h: usize, v: u32, n: usize, walk: &mut [u32])
+    requires { ⌜ (h < 1024) × (n < 1024) × (c .graphs ≤ 1024) × (34848 ≤ length (now tables)) × (2080 ≤ length (now walk)) ⌝ }
+    ensures { λ _. ⌜ Lists c (now (tables .entry)) h v n (now (walk .entry)) (now (walk .exit)) ⌝ }
+{
+    lists::put(walk, h, v);
+    lists::put(walk, LIST + n, h as u32);
+    note_due(c, tables, h, walk);
+}
+
+// The start of the walk of graph g, which is flipped and listed.
+fn begin(c: Counts, tables: &[u32], g: usize, walk: &mut [u32])
+    requires { ⌜ (g < c .graphs) × (c .graphs ≤ 1024) × (34848 ≤ length (now tables)) × (2080 ≤ length (now walk)) × (getD (now walk) g 0 < 2) ⌝ }
+    ensures { λ _. ⌜ Entries (c .graphs) 1 (now (walk .exit)) × ((ws : List ℕ) → observable ws g ≡ false → Hidden ws 1 (now (walk .exit))) × ((ws x : List ℕ) → Tabled ws c (now (tables .entry)) → observable ws g ≡ false
+        → Has (value ws c good x) (c .graphs) (now (walk .entry)) → Walking ws c x g (g + 1) 1 (now (walk .exit))) ⌝ }
+{
+    bitset::clear(walk, DUE, 32);
+    let own = lists::get(walk, g);
+    list_graph(c, tables, g, 1 - own, 0, walk);
+}
+
+// Graph h, which is due, is walked again, with n graphs listed and none of them observable; the answer is how many are listed then. An input reads nothing,
+// but of a set no promise says that it has nothing more.
+fn step(card: &[u32], c: Counts, tables: &[u32], h: usize, n: usize, walk: &mut [u32]) -> usize
+    requires { ⌜ Tabled (now card) c (now tables) × (h < c .graphs) × (n ≤ h) × Entries (c .graphs) n (now walk) × Hidden (now card) n (now walk) × (2080 ≤ length (now walk)) ⌝ }
+    ensures { λ r. ⌜ (r ≤ h + 1) × Entries (c .graphs) r (now (walk .exit)) × (ends (now (card .entry)) h n r ≡ false → Hidden (now (card .entry)) r (now (walk .exit))) × ((x : List ℕ) (g : ℕ) → Walking (now (card .entry)) c x g h n (now (walk .entry))
+        → Stepped (now (card .entry)) c x g h n r (now (walk .exit))) ⌝ }
 {
     if h < c.inputs {
-        return limit;
+        return n;
     }
-    let v = change::walk_graph(card, &tables[layout::FIRSTS], h, flips);
-    let own = lists::get(values, c.nodes + h);
+    let v = change::walk_graph(card, tables, h, walk);
+    let own = lists::get(walk, h);
     if v == own {
-        return limit;
+        return n;
     }
-    if layout::is_observable(card, &tables[layout::FIRSTS], h) {
-        return 0;
-    }
-    lists::put(flips, h, v);
-    limit_of(c, &tables[layout::HIGHS], h, limit)
+    list_graph(c, tables, h, v, n, walk);
+    n + 1
 }
 
-// The words of graphs `start` to `stop` are again those of the values, which have a word for each place.
-fn put_back(c: Counts, values: &[u32], start: usize, stop: usize, flips: &mut [u32])
-    requires { ⌜ (stop ≤ c .graphs) × (c .nodes + c .graphs ≤ length (now values)) × (c .graphs ≤ length (now flips)) ⌝ }
-    ensures { λ _. ⌜ ((v : ℕ → ℕ) (g : ℕ) → ((i : ℕ) → i < c .graphs → getD (now (values .entry)) (c .nodes + i) 0 ≡ v i)
-        → Apart v (c .graphs) g start stop (now (flips .entry)) → But v (c .graphs) g (now (flips .exit))) ⌝ }
+// Whether the walk ends with graph h, after which m graphs are listed and before which n were.
+fn is_last(card: &[u32], tables: &[u32], h: usize, n: usize, m: usize) -> bool
+    requires { ⌜ Walkable (now card) (now tables) h ⌝ }
+    ensures { λ r. ⌜ r ≡ ends (now (card .entry)) h n m ⌝ }
 {
-    let mut i = start;
-    while i < stop {
-        let own = lists::get(values, c.nodes + i);
-        lists::put(flips, i, own);
-        i += 1;
+    if n == m {
+        return false;
     }
+    layout::is_observable(card, tables, h)
 }
 
-// Where the walk goes on after graph h: with no reader left of what was listed before it, at its own lowest reader.
-fn next_of(c: Counts, lows: &[u32], h: usize, before: usize) -> usize
-    requires { ⌜ (h < c .graphs) × (c .graphs ≤ 1024) × (h < length (now lows)) ⌝ }
-    ensures { λ r. ⌜ Next (c .graphs) h before (getD (now (lows .entry)) h 0) r ⌝ }
+// THE STOPPED WALK of graph g, which is not observable: how many graphs it lists, each of them flipped.
+fn stopped_walk(card: &[u32], c: Counts, tables: &[u32], g: usize, walk: &mut [u32]) -> usize
+    requires { ⌜ Tabled (now card) c (now tables) × (g < c .graphs) × (observable (now card) g ≡ false) × (2080 ≤ length (now walk)) × (getD (now walk) g 0 < 2) ⌝ }
+    ensures { λ r. ⌜ (r ≤ c .graphs) × Entries (c .graphs) r (now (walk .exit)) × ((x : List ℕ) → Has (value (now (card .entry)) c good x) (c .graphs) (now (walk .entry))
+        → Stops (now (card .entry)) c x g r (now (walk .exit))) ⌝ }
 {
-    if h + 1 < before {
-        return h + 1;
-    }
-    start_of(c, lows, h)
-}
-
-// The walk of a graph that is flipped and not observable, and what it altered put back: whether an observable graph is listed.
-fn walk_on(
-    card: &[u32],
-    c: Counts,
-    tables: &layout::Tables,
-    values: &[u32],
-    start: usize,
-    bound: usize,
-    flips: &mut [u32],
-) -> bool
-    requires { ⌜ Tabled (now card) c (now tables) × (start ≤ c .graphs) × (bound ≤ c .graphs) × (c .nodes + c .graphs ≤ length (now values)) × (c .graphs ≤ length (now flips)) ⌝ }
-    ensures { λ r. ⌜ ((x : List ℕ) (g : ℕ) → Swept (now (card .entry)) c x (c .graphs) (now (values .entry)) → Quiet (now (card .entry)) c x g start
-        → Walking (now (card .entry)) c x g start bound (now (flips .entry))
-        → (r ≡ critical (now (card .entry)) c x g) × But (value (now (card .entry)) c good x) (c .graphs) g (now (flips .exit))) ⌝ }
-{
-    let mut h = start;
-    let mut limit = bound;
-    while h < limit {
-        let next = step(card, c, tables, values, h, limit, flips);
-        if next == 0 {
-            put_back(c, values, start, h, flips);
-            return true;
+    begin(c, tables, g, walk);
+    let mut n = 1;
+    let mut p = g + 1;
+    loop {
+        let h = bitset::next(walk, DUE, p, c.graphs);
+        if c.graphs <= h {
+            return n;
         }
-        h = next_of(c, &tables[layout::LOWS], h, limit);
-        limit = next;
+        let m = step(card, c, tables, h, n, walk);
+        if is_last(card, tables, h, n, m) {
+            return m;
+        }
+        n = m;
+        p = h + 1;
     }
-    put_back(c, values, start, h, flips);
-    false
 }
 
-// Whether graph g is critical: rule 3. The buffer has the graphs' good values, before and after.
+// The words of the n listed graphs are again those of the values, which have a word for each place.
+fn put_back(c: Counts, values: &[u32], n: usize, walk: &mut [u32])
+    requires { ⌜ (n ≤ 1024) × (c .graphs ≤ 1024) × Entries (c .graphs) n (now walk) × (c .nodes + c .graphs ≤ length (now values)) × (2080 ≤ length (now walk)) ⌝ }
+    ensures { λ _. ⌜ ((v : ℕ → ℕ) → ((i : ℕ) → i < c .graphs → getD (now (values .entry)) (c .nodes + i) 0 ≡ v i)
+        → But v (c .graphs) 0 n (now (walk .entry)) → Has v (c .graphs) (now (walk .exit))) ⌝ }
+{
+    let mut e = 0;
+    while e < n {
+        let i = lists::get(walk, LIST + e) as usize;
+        let own = lists::get(values, c.nodes + i);
+        lists::put(walk, i, own);
+        e += 1;
+    }
+}
+
+// Whether graph g, which is not observable, is critical: rule 3. The last graph of its stopped walk tells. The buffer has the graphs' good values, before
+// and after.
 pub fn is_critical(
     card: &[u32],
     c: Counts,
-    tables: &layout::Tables,
+    tables: &[u32],
     values: &[u32],
     g: usize,
-    flips: &mut [u32],
+    walk: &mut [u32],
 ) -> bool
-    requires { ⌜ Tabled (now card) c (now tables) × (g < c .graphs) × (c .nodes + c .graphs ≤ length (now values)) × (c .graphs ≤ length (now flips)) × (getD (now flips) g 0 < 2) ⌝ }
-    ensures { λ r. ⌜ ((x : List ℕ) → Swept (now (card .entry)) c x (c .graphs) (now (values .entry)) → Has (value (now (card .entry)) c good x) (c .graphs) (now (flips .entry))
-        → (r ≡ critical (now (card .entry)) c x g) × Has (value (now (card .entry)) c good x) (c .graphs) (now (flips .exit))) ⌝ }
+    requires { ⌜ Tabled (now card) c (now tables) × (g < c .graphs) × (observable (now card) g ≡ false) × (c .nodes + c .graphs ≤ length (now values)) × (2080 ≤ length (now walk)) × (getD (now walk) g 0 < 2) ⌝ }
+    ensures { λ r. ⌜ ((x : List ℕ) → Swept (now (card .entry)) c x (c .graphs) (now (values .entry)) → Has (value (now (card .entry)) c good x) (c .graphs) (now (walk .entry))
+        → (r ≡ critical (now (card .entry)) c x g) × Has (value (now (card .entry)) c good x) (c .graphs) (now (walk .exit))) ⌝ }
 {
-    if layout::is_observable(card, &tables[layout::FIRSTS], g) {
-        return true;
-    }
-    let own = lists::get(flips, g);
-    let start = start_of(c, &tables[layout::LOWS], g);
-    let bound = limit_of(c, &tables[layout::HIGHS], g, 0);
-    lists::put(flips, g, 1 - own);
-    let found = walk_on(card, c, tables, values, start, bound, flips);
-    lists::put(flips, g, own);
-    found
+    let n = stopped_walk(card, c, tables, g, walk);
+    let last = lists::get(walk, LIST + n - 1) as usize;
+    put_back(c, values, n, walk);
+    layout::is_observable(card, tables, last)
 }

@@ -1,8 +1,8 @@
 -- What is observed goes by the values alone. Assumes nothing.
 use Prim.Native.Nat.{ℕ, _<_}
-use mathlib.Core.Path.{_≡_, ap, _∙_}
+use mathlib.Core.Path.{_≡_, refl, ap, _∙_}
 use mathlib.Core.List.{List}
-use mathlib.Core.Bool.{true, false, not, _&&_}
+use mathlib.Core.Bool.{Bool, true, false, not, _&&_}
 use lib.Dec.{eqb}
 use Rattle.lists.proofs.Tests.{and-none, and-all, differ, agree, some-same, some-none, some-has}
 use Rattle.lists.proofs.Net.{Same}
@@ -21,3 +21,12 @@ module _ (ws : List ℕ) (n : ℕ) (v : ℕ → ℕ) where
   pub observed-has : (w : ℕ → ℕ) (h : ℕ) → h < n → observable ws h ≡ true → (w h ≡ v h → ⊥) → observed ws n v w ≡ true
   unfolding observed
   observed-has w h l o d = some-has _ n h l (and-all (observable ws h) (differ _ _ d) ∙ o)
+
+  -- where each observable graph has its value
+  pub observed-quiet : (w : ℕ → ℕ) → ((h : ℕ) → h < n → observable ws h ≡ true → w h ≡ v h) → observed ws n v w ≡ false
+  unfolding observed
+  observed-quiet w s = some-none _ n (λ h l. go h l (observable ws h) refl)
+    where
+      go : (h : ℕ) → h < n → (b : Bool) → observable ws h ≡ b → b && not (eqb (w h) (v h)) ≡ false
+      go h l true e = agree _ _ (s h l e)
+      go h l false e = refl

@@ -64,6 +64,11 @@ pub decides-bit : (ws : List ℕ) (g k r : ℕ) → r < 2 → decides ws g k r <
 unfolding decides decided
 decides-bit ws g k r h = h
 
+-- and where the graph that it reads has the other value, it is the other one
+pub decides-other : (ws : List ℕ) (g k r : ℕ) → decides ws g k (1 - r) ≡ 1 - decides ws g k r
+unfolding decides decided
+decides-other ws g k r = refl
+
 -- an input is not observable
 pub input-hidden : (ws : List ℕ) (g : ℕ) → isInput ws g ≡ true → observable ws g ≡ false
 unfolding isInput observable

@@ -1,3 +1,4 @@
 pub mod Layout
 pub mod Shape
 pub mod Tables
+pub mod Readers

@@ -1,9 +1,9 @@
--- The tables of an accepted card, made once: where each graph's nodes stand, and between which graphs its readers do. No contract of a call cites these.
--- Assumes nothing.
+-- The tables of an accepted card, made once: where each graph's nodes stand, and which graphs read it. No contract of a call cites these. Assumes nothing.
 use Prim.Native.Nat.{ℕ, _+_, _*_, _<_, _≤_}
 use mathlib.Core.Path.{_≡_}
-use mathlib.Core.List.{List, []}
+use mathlib.Core.List.{List}
 use lib.ListN.{length, getD}
+use Rattle.bitset.specs.Members.{member}
 use Rattle.answers.specs.declared.Counts.{Counts}
 use Rattle.layout.specs.Layout.{first, size, reads}
 use Rattle.layout.specs.Shape.{ReadsLower, ExitsLater, Shape}
@@ -23,24 +23,32 @@ pub record Walkable (ws firsts : List ℕ) (g : ℕ) : Type 0 where
   pub lower : ReadsLower ws g
   pub later : ExitsLater ws g
 
--- no graph below lows g and none above highs g reads graph g
-pub record Reach (ws : List ℕ) (c : Counts) (lows highs : List ℕ) : Type 0 where
-  pub low-long : c .graphs ≤ length lows
-  pub high-long : c .graphs ≤ length highs
-  pub low : (h k : ℕ) → h < c .graphs → k < size ws h → getD lows (reads ws h k) 0 ≤ h
-  pub high : (h k : ℕ) → h < c .graphs → k < size ws h → h ≤ getD highs (reads ws h k) 0
+-- where the word that tells the only reader of graph r stands in the tables, and where the set of its readers does
+abbrev pub soleOf : ℕ → ℕ
+soleOf r = 1056 + r
 
--- the same of some readers: the nodes of graphs below n, and the first k nodes of graph n
-pub record ReachBelow (ws : List ℕ) (n k : ℕ) (lows highs : List ℕ) : Type 0 where
-  pub low : (h j : ℕ) → h < n → j < size ws h → getD lows (reads ws h j) 0 ≤ h
-  pub high : (h j : ℕ) → h < n → j < size ws h → h ≤ getD highs (reads ws h j) 0
-  pub low-here : (j : ℕ) → j < k → getD lows (reads ws n j) 0 ≤ n
-  pub high-here : (j : ℕ) → j < k → n ≤ getD highs (reads ws n j) 0
+abbrev pub readersOf : ℕ → ℕ
+readersOf r = 2080 + 32 * r
 
--- all three tables, as rows of one array
-abbrev pub row : List (List ℕ) → ℕ → List ℕ
-row t i = getD t i []
+-- a local node of a graph reads graph r, and its number among all nodes, plus 1, is p
+pub record Reader (ws : List ℕ) (r p : ℕ) : Type 0 where
+  pub graph : ℕ
+  pub node : ℕ
+  pub inside : node < size ws graph
+  pub read : reads ws graph node ≡ r
+  pub place : first ws graph + node + 1 ≡ p
 
-pub record Tabled (ws : List ℕ) (c : Counts) (t : List (List ℕ)) : Type 0 where
-  pub ready : Ready ws c (row t 0)
-  pub reach : Reach ws c (row t 1) (row t 2)
+-- The tables have the first m nodes. The graph of each is in the set of the graph that it reads; what else is in a set is left open. Where the word of
+-- the graph read is below 4097 it is the node's number plus 1, so that no other reads it; and a word from 1 to 4096 is that of a node which reads it.
+pub record Noted (ws : List ℕ) (m : ℕ) (t : List ℕ) : Type 0 where
+  pub few : (h k : ℕ) → k < size ws h → first ws h + k < m → reads ws h k < 1024
+  pub readers : (h k : ℕ) → k < size ws h → first ws h + k < m → 0 < member t (readersOf (reads ws h k)) h
+  pub alone : (h k : ℕ) → k < size ws h → first ws h + k < m → getD t (soleOf (reads ws h k)) 0 < 4097 → first ws h + k + 1 ≡ getD t (soleOf (reads ws h k)) 0
+  pub upto : (r : ℕ) → r < 1024 → getD t (soleOf r) 0 < 4097 → getD t (soleOf r) 0 ≤ m
+  pub sole : (r : ℕ) → r < 1024 → 0 < getD t (soleOf r) 0 → getD t (soleOf r) 0 < 4097 → Reader ws r (getD t (soleOf r) 0)
+
+-- all tables, one after the other: for each graph its first node, its only reader, and a set that has its readers
+pub record Tabled (ws : List ℕ) (c : Counts) (t : List ℕ) : Type 0 where
+  pub ready : Ready ws c t
+  pub long : 34848 ≤ length t
+  pub noted : Noted ws (c .nodes) t

@@ -45,6 +45,9 @@ module _ (p : ℕ → Bool) where
   unfolding count
   count-next n = refl
 
+  pub count-more : (n : ℕ) (b : Bool) → p n ≡ b → count p n + choose b 1 0 ≡ count p (n + 1)
+  count-more n b e = rw (add-one, count-next n, e)
+
   pub count-le : (n : ℕ) → count p n ≤ n
   unfolding count
   count-le zero = omega arith
@@ -61,6 +64,15 @@ module _ (p : ℕ → Bool) where
 
   pub count-rises : (n m : ℕ) → n < m → p n ≡ true → count p n < count p m
   count-rises n m h e = omega (arith, count-up (suc n) m h, (rw e at (count-next n)))
+
+  -- and past numbers that don't the same
+  pub count-gap : (n m : ℕ) → n ≤ m → ((k : ℕ) → n ≤ k → k < m → p k ≡ false) → count p m ≡ count p n
+  unfolding count
+  count-gap n zero h s = let e : n ≡ 0 = omega arith in rw e
+  count-gap n (suc m) h s = elim (ℕ-discrete n (suc m)) [
+    | yes e ↦ rw e
+    | no d ↦ rw (s m (omega arith) (omega arith), count-gap n m (omega arith) (λ k i j. s k i (omega arith))) (omega arith)
+  ]
 
   -- so no two numbers that pass have one count below them
   pub count-apart : (n m : ℕ) → p n ≡ true → p m ≡ true → count p n ≡ count p m → n ≡ m

@@ -1,5 +1,8 @@
--- The laws that proofs of functions and of other laws cite, each stated once.
+-- The laws that proofs of functions and of other laws cite, each stated once, and worked examples.
 pub mod Meets
 pub mod Changes
 pub mod Faults
 pub mod Told
+pub mod Stopped
+pub mod Readers
+pub mod Examples

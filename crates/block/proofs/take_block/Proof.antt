@@ -14,19 +14,19 @@ use mathlib.Core.Path.{_≡_, refl}
 use native.Mathlib.Omega.{arith}
 
 abbrev Inv-loop : tie.InvT-loop
-Inv-loop card c tables vectors marks₀ tallies₀ values₀ flips₀ caught₀ n all q₀ i₀ marks tallies values flips caught q i =
-    (i ≤ n) × (length marks ≡ length marks₀) × (length tallies ≡ length tallies₀) × (5120 ≡ length values) × (1024 ≡ length flips) × (5120 ≡ length caught)
+Inv-loop card c tables vectors marks₀ tallies₀ values₀ walk₀ caught₀ n all q₀ i₀ marks tallies values walk caught q i =
+    (i ≤ n) × (length marks ≡ length marks₀) × (length tallies ≡ length tallies₀) × (5120 ≡ length values) × (2080 ≡ length walk) × (5120 ≡ length caught)
     × (q .vector ≡ q₀ .vector + i) × Counted (c .faults) marks tallies q × UpdatedAll card c vectors (q₀ .vector) i marks₀ tallies₀ marks tallies
 
 abbrev μ-loop : tie.MeasureT-loop
-μ-loop card c tables vectors marks₀ tallies₀ values₀ flips₀ caught₀ n all q₀ i₀ marks tallies values flips caught q i =
+μ-loop card c tables vectors marks₀ tallies₀ values₀ walk₀ caught₀ n all q₀ i₀ marks tallies values walk caught q i =
     n - i
 
 place-table-requires : tie.Need-place-table-requires Inv-loop μ-loop
 place-table-requires c κs = search needs
 
-graph-table-requires : tie.Need-graph-table-requires Inv-loop μ-loop
-graph-table-requires c κs = search needs
+walk-room-requires : tie.Need-walk-room-requires Inv-loop μ-loop
+walk-room-requires c κs = search needs
 
 place-table-requires-2 : tie.Need-place-table-requires-2 Inv-loop μ-loop
 place-table-requires-2 c κs = search needs
@@ -43,7 +43,7 @@ loop-holds : tie.Need-loop-holds Inv-loop μ-loop
 loop-holds c =
     let at-table = c .before .before in
     let start = at-table .before .before .before .before .before .before .before in
-    (omega arith, refl, refl, at-table .before .before .place-table .ensures, at-table .before .graph-table .ensures, at-table .place-table2 .ensures, omega arith, start .pre .2, updated-none)
+    (omega arith, refl, refl, at-table .before .before .place-table .ensures, at-table .before .walk-room .ensures, at-table .place-table2 .ensures, omega arith, start .pre .2, updated-none)
 
 vector-at-requires : tie.Need-vector-at-requires Inv-loop μ-loop
 vector-at-requires c κs =
@@ -55,19 +55,19 @@ vector-at-requires c κs =
 
 slice-aggregate-catch-vector : tie.Need-slice-aggregate-catch-vector Inv-loop μ-loop
 slice-aggregate-catch-vector c =
-    c .before .before .before .loop .inv .3
+    c .before .before .before .before .loop .inv .3
 
 slice-aggregate-catch-vector-2 : tie.Need-slice-aggregate-catch-vector-2 Inv-loop μ-loop
 slice-aggregate-catch-vector-2 c =
-    c .before .before .before .before .loop .inv .4
+    c .before .before .before .before .before .loop .inv .4
 
 slice-aggregate-catch-vector-3 : tie.Need-slice-aggregate-catch-vector-3 Inv-loop μ-loop
 slice-aggregate-catch-vector-3 c =
-    c .before .before .before .before .before .loop .inv .5
+    c .before .before .before .before .before .before .loop .inv .5
 
 catch-vector-requires : tie.Need-catch-vector-requires Inv-loop μ-loop
 catch-vector-requires c κs =
-    let at-vector = c .before .before .before in
+    let at-vector = c .before .before .before .before in
     let at-loop = at-vector .before .before in
     let at-count = at-loop .before .before in
     let at-table = at-count .before in
@@ -80,7 +80,7 @@ catch-vector-requires c κs =
       rw (at-vector .vector-at .ensures) (omega (arith, vector-width (start .args .c .inputs) (start .args .vectors .now) (at-loop .loop .i) inside)),
       record {
         values-long = omega (arith, inv .3, shape .few-nodes, shape .few-graphs);
-        flips-long = omega (arith, inv .4, shape .few-graphs);
+        walk-long = omega (arith, inv .4);
         caught-long = omega (arith, inv .5, shape .few-nodes, shape .few-graphs);
       },
     )
@@ -91,7 +91,7 @@ slice-aggregate-take-in c = search needs
 take-in-requires : tie.Need-take-in-requires Inv-loop μ-loop
 take-in-requires c κs =
     let at-catch = c .before .before .before .before .before .before in
-    let at-test = at-catch .before .before .before .before .before in
+    let at-test = at-catch .before .before .before .before .before .before in
     let at-loop = at-test .before in
     let at-count = at-loop .before .before in
     let at-table = at-count .before in
@@ -108,7 +108,7 @@ add-i : tie.Need-add-i Inv-loop μ-loop
 add-i c =
     let at-take = c .before .before .before .before in
     let at-catch = at-take .before .before .before .before .before .before .before in
-    let at-test = at-catch .before .before .before .before .before in
+    let at-test = at-catch .before .before .before .before .before .before in
     let at-count = at-test .before .before .before in
     let at-table = at-count .before in
     let start = at-table .before .before .before .before .before .before .before in
@@ -118,13 +118,13 @@ loop-less : tie.Need-loop-less Inv-loop μ-loop
 loop-less c =
     let at-take = c .before .before .before .before in
     let at-catch = at-take .before .before .before .before .before .before .before in
-    omega (arith, at-catch .before .before .before .before .before .loop-test .taken)
+    omega (arith, at-catch .before .before .before .before .before .before .loop-test .taken)
 
 loop-again : tie.Need-loop-again Inv-loop μ-loop
 loop-again c =
     let at-take = c .before .before .before .before in
     let at-catch = at-take .before .before .before .before .before .before .before in
-    let at-vector = at-catch .before .before .before .before in
+    let at-vector = at-catch .before .before .before .before .before in
     let at-loop = at-vector .before .before in
     let at-table = at-loop .before .before .before in
     let start = at-table .before .before .before .before .before .before .before in
@@ -168,7 +168,7 @@ take-block-spec =
     Inv-loop
     μ-loop
     place-table-requires
-    graph-table-requires
+    walk-room-requires
     place-table-requires-2
     count-vectors-requires
     add-all

@@ -7,8 +7,8 @@ use lib.ListN.{length, getD}
 use lib.Dec.{eqb}
 use Rattle.lists.specs.Counting.{count}
 use Rattle.lists.specs.Tables.{chosen, front}
-use Rattle.lists.proofs.Counting.{count-le}
-use Rattle.changes.proofs.Laws.{chosen-none, chosen-more, count-more}
+use Rattle.lists.proofs.Counting.{count-le, count-more}
+use Rattle.changes.proofs.Laws.{chosen-none, chosen-more}
 use borrow.Author.Needs.{needs}
 use Rattle.changes.proofs.list_changes.Statement.{statement}
 use Rattle.changes.proofs.list_changes.Tie as tie

@@ -15,8 +15,8 @@ use Rattle.changes.proofs.work_out_critical.Tie as tie
 catch-vector-requires : tie.Need-catch-vector-requires
 catch-vector-requires c κs =
     let at-place-table2 = c .before .before .before .before in
-    let at-graph-table = at-place-table2 .before in
-    let at-place-table = at-graph-table .before in
+    let at-walk-room = at-place-table2 .before in
+    let at-place-table = at-walk-room .before in
     let at-make-tables = at-place-table .before in
     let start = at-make-tables .before .before .before .before in
     let f = start .pre .0 .few-graphs in
@@ -25,7 +25,7 @@ catch-vector-requires c κs =
       start .pre .1,
       record {
         values-long = omega (arith, f, n, at-place-table .place-table .ensures);
-        flips-long = omega (arith, f, at-graph-table .graph-table .ensures);
+        walk-long = omega (arith, at-walk-room .walk-room .ensures);
         caught-long = omega (arith, f, n, at-place-table2 .place-table2 .ensures);
       },
     )
@@ -33,16 +33,16 @@ catch-vector-requires c κs =
 flag-places-requires : tie.Need-flag-places-requires
 flag-places-requires c κs =
     let at-catch-vector = c .before .before .before .before .before in
-    let at-graph-table = at-catch-vector .before .before .before .before .before .before in
-    let start = at-graph-table .before .before .before .before .before .before in
+    let at-walk-room = at-catch-vector .before .before .before .before .before .before in
+    let start = at-walk-room .before .before .before .before .before .before in
     (omega (arith, at-catch-vector .catch-vector .ensures .long), start .pre .2)
 
 returns : tie.Need-returns
 returns c =
     let at-flag-places = c .before .before in
     let at-catch-vector = at-flag-places .before .before .before .before .before .before in
-    let at-graph-table = at-catch-vector .before .before .before .before .before .before in
-    let start = at-graph-table .before .before .before .before .before .before in
+    let at-walk-room = at-catch-vector .before .before .before .before .before .before in
+    let start = at-walk-room .before .before .before .before .before .before in
     at-flag-places .flag-places .ensures ∙ over-same _ _ _ _ (λ j h.
     let t = told-node (start .pre .0) (at-catch-vector .catch-vector .ensures) j h in
     ap (λ (b : Bool). choose b 1 0) (ap (λ (n : ℕ). ltb n 2) t ∙ critical-word (start .pre .0) _ j h))
@@ -50,4 +50,4 @@ returns c =
 pub work-out-critical-spec : {M : Type 1} → statement M
 work-out-critical-spec =
     tie.close
-    (tie.spec (λ c κs. search needs) (λ c κs. search needs) (λ c κs. search needs) (λ c κs. search needs) (λ c. search needs) (λ c. search needs) (λ c. search needs) catch-vector-requires (λ c. search needs) flag-places-requires (λ c. search needs) returns)
+    (tie.spec (λ c κs. search needs) (λ c κs. search needs) (λ c κs. search needs) (λ c κs. search needs) (λ c. search needs) (λ c. search needs) (λ c. search needs) (λ c. search needs) catch-vector-requires (λ c. search needs) flag-places-requires (λ c. search needs) returns)

@@ -1,28 +1,37 @@
 -- `layout::make_tables` meets its contract. Assumes nothing.
 use native.Mathlib.Omega.{arith}
 use Rattle.layout.proofs.Places.{made-ready}
+use Rattle.layout.proofs.Readers.{none-noted, all-tabled}
 use borrow.Author.Needs.{needs}
 use Rattle.layout.proofs.make_tables.Statement.{statement}
 use Rattle.layout.proofs.make_tables.Tie as tie
 
-read-ranges-requires : tie.Need-read-ranges-requires
-read-ranges-requires c κs =
-    let at-first-table3 = c .before .before .before in
-    let at-first-table2 = at-first-table3 .before in
-    let at-first-nodes = at-first-table2 .before .before in
+note-readers-requires : tie.Need-note-readers-requires
+note-readers-requires c κs =
+    let at-empty-tables = c .before .before in
+    let at-first-nodes = at-empty-tables .before .before in
     let at-first-table = at-first-nodes .before .before in
     let start = at-first-table .before .before in
-    (made-ready _ (start .pre) (omega (arith, start .pre .few-graphs, at-first-table .first-table .ensures)) (at-first-nodes .first-nodes .ensures), omega (arith, start .pre .few-graphs, at-first-table2 .first-table2 .ensures), omega (arith, start .pre .few-graphs, at-first-table3 .first-table3 .ensures))
+    let e = at-empty-tables .empty-tables .ensures in (
+      made-ready _ (start .pre) (omega (arith, start .pre .few-graphs, at-first-table .first-table .ensures)) (at-first-nodes .first-nodes .ensures),
+      omega (arith, e .0),
+      none-noted (e .1),
+    )
+
+first-nodes-requires-2 : tie.Need-first-nodes-requires-2
+first-nodes-requires-2 c κs =
+    let start = c .before .before .before .before .before .before .before .before .before .before .before in
+    (start .pre, search needs)
 
 returns : tie.Need-returns
 returns c =
-    let at-read-ranges = c .before .before in
-    let at-first-nodes = at-read-ranges .before .before .before .before .before .before .before in
-    let at-first-table = at-first-nodes .before .before in
-    let start = at-first-table .before .before in
-    record { ready = made-ready _ (start .pre) (omega (arith, start .pre .few-graphs, at-first-table .first-table .ensures)) (at-first-nodes .first-nodes .ensures); reach = at-read-ranges .read-ranges .ensures }
+    let at-first-nodes2 = c .before in
+    let at-note-readers = at-first-nodes2 .before .before .before in
+    let at-empty-tables = at-note-readers .before .before .before in
+    let start = at-empty-tables .before .before .before .before .before .before in
+    all-tabled (start .pre) (at-note-readers .note-readers .ensures) (search needs) (at-first-nodes2 .first-nodes2 .ensures)
 
 pub make-tables-spec : {M : Type 1} → statement M
 make-tables-spec =
     tie.close
-    (tie.spec (λ c κs. search needs) (λ c. search needs) (λ c κs. search needs) (λ c κs. search needs) (λ c κs. search needs) (λ c. search needs) (λ c. search needs) (λ c. search needs) read-ranges-requires returns)
+    (tie.spec (λ c κs. search needs) (λ c. search needs) (λ c κs. search needs) (λ c κs. search needs) (λ c. search needs) (λ c. search needs) note-readers-requires (λ c. search needs) first-nodes-requires-2 returns)

@@ -1,0 +1,2 @@
+-- Bits of words, and sets of numbers in them.
+pub mod Bits
