@@ -53,7 +53,8 @@ fn list_graph(c: Counts, tables: &[u32], h: usize, v: u32, n: usize, walk: &mut 
 // The start of the walk of graph g, which is flipped and listed.
 fn begin(c: Counts, tables: &[u32], g: usize, walk: &mut [u32])
     requires { ⌜ (g < c .graphs) × (c .graphs ≤ 1024) × (34848 ≤ length (now tables)) × (2080 ≤ length (now walk)) × (getD (now walk) g 0 < 2) ⌝ }
-    ensures { λ _. ⌜ Entries (c .graphs) 1 (now (walk .exit)) × ((ws : List ℕ) → observable ws g ≡ false → Hidden ws 1 (now (walk .exit))) × ((ws x : List ℕ) → Tabled ws c (now (tables .entry)) → observable ws g ≡ false
+    ensures { λ _. ⌜ Entries (c .graphs) 1 (now (walk .exit)) × ((ws : List ℕ) → observable ws g ≡ false → Hidden ws 1 (now (walk .exit)))
+        × ((ws x : List ℕ) → Tabled ws c (now (tables .entry)) → observable ws g ≡ false
         → Has (value ws c good x) (c .graphs) (now (walk .entry)) → Walking ws c x g (g + 1) 1 (now (walk .exit))) ⌝ }
 {
     bitset::clear(walk, DUE, 32);
@@ -61,11 +62,12 @@ fn begin(c: Counts, tables: &[u32], g: usize, walk: &mut [u32])
     list_graph(c, tables, g, 1 - own, 0, walk);
 }
 
-// Graph h, which is due, is walked again, with n graphs listed and none of them observable; the answer is how many are listed then. An input reads nothing,
-// but of a set no promise says that it has nothing more.
+// Graph h, which is due, is walked again, with n graphs listed and none of them observable; the answer is how many are listed then. An input is never due,
+// but no promise of the sets says so.
 fn step(card: &[u32], c: Counts, tables: &[u32], h: usize, n: usize, walk: &mut [u32]) -> usize
     requires { ⌜ Tabled (now card) c (now tables) × (h < c .graphs) × (n ≤ h) × Entries (c .graphs) n (now walk) × Hidden (now card) n (now walk) × (2080 ≤ length (now walk)) ⌝ }
-    ensures { λ r. ⌜ (r ≤ h + 1) × Entries (c .graphs) r (now (walk .exit)) × (ends (now (card .entry)) h n r ≡ false → Hidden (now (card .entry)) r (now (walk .exit))) × ((x : List ℕ) (g : ℕ) → Walking (now (card .entry)) c x g h n (now (walk .entry))
+    ensures { λ r. ⌜ (r ≤ h + 1) × Entries (c .graphs) r (now (walk .exit)) × (ends (now (card .entry)) h n r ≡ false → Hidden (now (card .entry)) r (now (walk .exit)))
+        × ((x : List ℕ) (g : ℕ) → Walking (now (card .entry)) c x g h n (now (walk .entry))
         → Stepped (now (card .entry)) c x g h n r (now (walk .exit))) ⌝ }
 {
     if h < c.inputs {
@@ -94,7 +96,8 @@ fn is_last(card: &[u32], tables: &[u32], h: usize, n: usize, m: usize) -> bool
 // THE STOPPED WALK of graph g, which is not observable: how many graphs it lists, each of them flipped.
 fn stopped_walk(card: &[u32], c: Counts, tables: &[u32], g: usize, walk: &mut [u32]) -> usize
     requires { ⌜ Tabled (now card) c (now tables) × (g < c .graphs) × (observable (now card) g ≡ false) × (2080 ≤ length (now walk)) × (getD (now walk) g 0 < 2) ⌝ }
-    ensures { λ r. ⌜ (r ≤ c .graphs) × Entries (c .graphs) r (now (walk .exit)) × ((x : List ℕ) → Has (value (now (card .entry)) c good x) (c .graphs) (now (walk .entry))
+    ensures { λ r. ⌜ (r ≤ c .graphs) × Entries (c .graphs) r (now (walk .exit))
+        × ((x : List ℕ) → Has (value (now (card .entry)) c good x) (c .graphs) (now (walk .entry))
         → Stops (now (card .entry)) c x g r (now (walk .exit))) ⌝ }
 {
     begin(c, tables, g, walk);
@@ -139,7 +142,8 @@ pub fn is_critical(
     g: usize,
     walk: &mut [u32],
 ) -> bool
-    requires { ⌜ Tabled (now card) c (now tables) × (g < c .graphs) × (observable (now card) g ≡ false) × (c .nodes + c .graphs ≤ length (now values)) × (2080 ≤ length (now walk)) × (getD (now walk) g 0 < 2) ⌝ }
+    requires { ⌜ Tabled (now card) c (now tables) × (g < c .graphs) × (observable (now card) g ≡ false) × (c .nodes + c .graphs ≤ length (now values))
+        × (2080 ≤ length (now walk)) × (getD (now walk) g 0 < 2) ⌝ }
     ensures { λ r. ⌜ ((x : List ℕ) → Swept (now (card .entry)) c x (c .graphs) (now (values .entry)) → Has (value (now (card .entry)) c good x) (c .graphs) (now (walk .entry))
         → (r ≡ critical (now (card .entry)) c x g) × Has (value (now (card .entry)) c good x) (c .graphs) (now (walk .exit))) ⌝ }
 {

@@ -178,7 +178,8 @@ fn sole_with(had: u32, j: usize) -> u32
 
 // Node j, of graph h, is noted: h is one of the readers of the graph that it reads, and j the only one if there was none.
 fn note_node(card: &[u32], h: usize, j: usize, tables: &mut [u32])
-    requires { ⌜ (h + 1 + 2 * j < length (now card)) × (readGraph (getD (now card) (h + 1 + 2 * j) 0) < 1024) × (h < 1024) × (j < 4096) × (34848 ≤ length (now tables)) ⌝ }
+    requires { ⌜ (h + 1 + 2 * j < length (now card)) × (readGraph (getD (now card) (h + 1 + 2 * j) 0) < 1024) × (h < 1024) × (j < 4096)
+        × (34848 ≤ length (now tables)) ⌝ }
     ensures { λ _. ⌜ ((k : ℕ) → k < size (now (card .entry)) h → j ≡ first (now (card .entry)) h + k → Noted (now (card .entry)) j (now (tables .entry))
         → Noted (now (card .entry)) (j + 1) (now (tables .exit))) ⌝ }
 {
@@ -190,7 +191,8 @@ fn note_node(card: &[u32], h: usize, j: usize, tables: &mut [u32])
 
 // All nodes of graph h.
 fn note_graph(card: &[u32], firsts: &[u32], h: usize, tables: &mut [u32])
-    requires { ⌜ Walkable (now card) (now firsts) h × (h < 1024) × (first (now card) h + size (now card) h ≤ 4096) × (34848 ≤ length (now tables)) × Noted (now card) (first (now card) h) (now tables) ⌝ }
+    requires { ⌜ Walkable (now card) (now firsts) h × (h < 1024) × (first (now card) h + size (now card) h ≤ 4096) × (34848 ≤ length (now tables))
+        × Noted (now card) (first (now card) h) (now tables) ⌝ }
     ensures { λ _. ⌜ Noted (now (card .entry)) (first (now (card .entry)) (h + 1)) (now (tables .exit)) ⌝ }
 {
     let first = first_node(firsts, h);
