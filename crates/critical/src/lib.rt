@@ -96,9 +96,9 @@ fn is_last(card: &[u32], tables: &[u32], h: usize, n: usize, m: usize) -> bool
 // THE STOPPED WALK of graph g, which is not observable: how many graphs it lists, each of them flipped.
 fn stopped_walk(card: &[u32], c: Counts, tables: &[u32], g: usize, walk: &mut [u32]) -> usize
     requires { ⌜ Tabled (now card) c (now tables) × (g < c .graphs) × (observable (now card) g ≡ false) × (2080 ≤ length (now walk)) × (getD (now walk) g 0 < 2) ⌝ }
-    ensures { λ r. ⌜ (r ≤ c .graphs) × Entries (c .graphs) r (now (walk .exit))
-        × ((x : List ℕ) → Has (value (now (card .entry)) c good x) (c .graphs) (now (walk .entry))
-        → Stops (now (card .entry)) c x g r (now (walk .exit))) ⌝ }
+    ensures { λ r. ⌜ (r ≤ c .graphs)
+        × ((x : List ℕ) → Has (value (now (card .entry)) c good x) (c .graphs) (now (walk .entry)) → Stops (now (card .entry)) c x g r (now (walk .exit)))
+        × Entries (c .graphs) r (now (walk .exit)) ⌝ }
 {
     begin(c, tables, g, walk);
     let mut n = 1;

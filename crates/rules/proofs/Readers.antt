@@ -75,7 +75,7 @@ module _ {ws : List ℕ} {c : Counts} (a : Shape ws c) (x : List ℕ) {g h k : �
     ]
 
     -- and one fault is caught exactly where the other is
-    pub paired : detects ws c x f ≡ detects ws c x f′
+    paired : detects ws c x f ≡ detects ws c x f′
     unfolding detects observed
     paired = some-same _ _ (c .graphs) (λ r l. elim (ℕ-discrete r g) [
       | yes p ↦ rw (p, hidden)

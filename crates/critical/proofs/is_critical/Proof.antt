@@ -19,7 +19,7 @@ is-observable-requires c κs =
     let at-get = c .before .before .before .before in
     let at-stopped-walk = at-get .before .before .before .before in
     let start = at-stopped-walk .before .before .before .before .before .before in
-    let w = at-stopped-walk .stopped-walk .ensures .1 in
+    let w = at-stopped-walk .stopped-walk .ensures .2 in
     let n = at-stopped-walk .stopped-walk .result in
     let e : listFrom + n - 1 ≡ listFrom + (n - 1) = omega (arith, w .some) in
     walkable (start .pre .0 .ready) (rw (at-get .get .ensures, e) (w .inside (n - 1) (omega (arith, w .some))))
@@ -33,10 +33,10 @@ returns c =
     let a = start .pre .0 .ready .shape in
     let w = at-stopped-walk .stopped-walk .ensures in
     let n = at-stopped-walk .stopped-walk .result in
-    let e : listFrom + n - 1 ≡ listFrom + (n - 1) = omega (arith, w .1 .some) in
+    let e : listFrom + n - 1 ≡ listFrom + (n - 1) = omega (arith, w .2 .some) in
     λ x p s.
-    let t = w .2 x s in (
-      c .is-observable .ensures ∙ last-tells a x _ t (w .1 .some) (rw (← e) (at-get .get .ensures)),
+    let t = w .1 x s in (
+      c .is-observable .ensures ∙ last-tells a x _ t (w .2 .some) (rw (← e) (at-get .get .ensures)),
       at-put-back .put-back .ensures _ (p .graphs) (listed-alone t (search needs)),
     )
 

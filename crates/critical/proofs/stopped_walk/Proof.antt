@@ -45,8 +45,8 @@ returns c =
     let a = start .pre .0 .ready .shape in
     let inv = at-loop .loop .inv in (
       omega (arith, inv .0, inv .1),
-      inv .3,
       λ x s. all-listed a x _ (start .pre .1) (skipped a (inv .5 x (at-begin .begin .ensures .2 _ x (start .pre .0) (start .pre .2) s)) (at-next .next .ensures) _ (inv .1) (c .if1 .taken) (omega arith)),
+      inv .3,
     )
 
 step-requires : tie.Need-step-requires Inv-loop μ-loop
@@ -77,10 +77,10 @@ returns-2 c =
     let inv = at-loop .loop .inv in
     let r = at-step .step .ensures in (
       omega (arith, r .0, at-if1 .if1 .left),
-      r .1,
       λ x s.
           let w = skipped a (inv .5 x (at-begin .begin .ensures .2 _ x (start .pre .0) (start .pre .2) s)) (at-next .next .ensures) _ (at-next .next .ensures .onward) (omega arith) (omega (arith, at-if1 .if1 .left)) in
           r .3 x _ w .seen (rw (at-is-last .is-last .ensures) at (c .if2 .taken)),
+      r .1,
     )
 
 loop-less : tie.Need-loop-less Inv-loop μ-loop
