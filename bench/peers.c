@@ -532,6 +532,34 @@ static void columns_64(int base, uint64_t *gv) { columns64(base, gv, 1); }
 
 /* ---------------------------------------------------------------- main */
 
+/* does a fault count?  Not those of a graph that is not observable and has one
+ * reader; here readers are all nodes that read it, not only those of fo */
+static int counts(int f, const uint16_t *readers)
+{
+    int g = f / 2 - N;
+    return g < 0 || kind[g] == 2 || readers[g] != 1;
+}
+
+static void print_grade(int quiet)
+{
+    static uint16_t nreaders[MAXG];
+    int marked = 0, total = 0;
+    for (int j = 0; j < N; j++)
+        nreaders[nd[j].read]++;
+    printf("card %d %d %d %d\n", M, G, N, F);
+    for (int f = 0; f < F; f++) {
+        total += counts(f, nreaders);
+        marked += counts(f, nreaders) && first[f] >= 0;
+        if (quiet)
+            continue;
+        if (first[f] < 0)
+            printf("%d - 0\n", f);
+        else
+            printf("%d %d %u\n", f, (int)first[f], (unsigned)tally[f]);
+    }
+    printf("grade %d %d\n", marked, total);
+}
+
 static double now(void)
 {
     struct timespec t;
@@ -581,18 +609,10 @@ int main(int argc, char **argv)
             setup = t1 - t0;
         sum += t2 - t1;
     }
-    int marked = 0, nmarked = 0;
-    for (int f = 0; f < F; f++) {
-        marked += first[f] >= 0;
-        nmarked += f < 2 * N && first[f] >= 0;
-    }
-    printf("card %d %d %d %d\n", M, G, N, F);
-    for (int f = 0; f < F && !quiet; f++)
-        if (first[f] < 0)
-            printf("%d - 0\n", f);
-        else
-            printf("%d %d %u\n", f, (int)first[f], (unsigned)tally[f]);
-    printf("grade %d %d\n", marked, F);
+    int nmarked = 0;
+    for (int f = 0; f < 2 * N; f++)
+        nmarked += first[f] >= 0;
+    print_grade(quiet);
     fprintf(stderr, "%s best_ns %.0f mean_ns %.0f setup_ns %.0f repeat %d vectors %d"
                     " node_faults_marked %d of %d",
             mode[m].name, best, sum / repeat, setup, repeat, V, nmarked, 2 * N);

@@ -12,8 +12,8 @@
 
 #include <stdio.h>
 
-/* The most words of a card, the most vector words, and the faults of 4,096 nodes and 1,024 graphs. */
-enum { CARD_WORDS = 9216, VECTOR_WORDS = 16384, FAULTS = 10240 };
+/* The most words of a card, vector words and graphs, and the faults of 4,096 nodes and 1,024 graphs. */
+enum { CARD_WORDS = 9216, VECTOR_WORDS = 16384, GRAPHS = 1024, FAULTS = 10240 };
 
 /* One vector word more than is graded, so that a longer list shows. */
 static uint8_t count[4], card[4 * CARD_WORDS], vectors[4 * (VECTOR_WORDS + 1)];
@@ -52,6 +52,24 @@ static void print_fault(uint32_t fault)
         printf("%u %u %u\n", (unsigned)fault, (unsigned)(mark - 0xE0000000), (unsigned)word(tallies, fault));
 }
 
+/* How many of a right card's faults count in the grade. A graph that is not observable and that one node alone
+ * reads is a lead to that node, and the node's two faults count, not its own. A word's top three bits are 0 to 2 in
+ * a graph's header, 2 where it is observable, and 3 in a read, which has the graph's number in bits 15..0. */
+static uint32_t total(uint32_t faults)
+{
+    static uint32_t readers[GRAPHS];
+    uint32_t graph = 0;
+    for (size_t at = 0; at < card_len / 4; at++)
+        if (word(card, at) >> 29 == 3)
+            readers[word(card, at) & 0xFFFF]++;
+    for (size_t at = 0; at < card_len / 4; at++) {
+        uint32_t kind = word(card, at) >> 29;
+        if (kind <= 2 && readers[graph++] == 1 && kind != 2)
+            faults -= 2;
+    }
+    return faults;
+}
+
 /* Grades the list and answers the exit status. The buffers are long enough for every card, so a card that
  * is graded passes the check as well. */
 static int grade(void)
@@ -66,7 +84,7 @@ static int grade(void)
            (unsigned)word(numbers, 4));
     for (uint32_t fault = 0; fault < word(numbers, 4); fault++)
         print_fault(fault);
-    printf("grade %u %u\n", (unsigned)marked, (unsigned)word(numbers, 4));
+    printf("grade %u %u\n", (unsigned)marked, (unsigned)total(word(numbers, 4)));
     return 0;
 }
 

@@ -11,6 +11,11 @@
  * holds graph g at 0, 2N + 2g + 1 at 1. A vector catches a fault exactly when, with the fault in, an
  * observable graph differs from its value with no fault.
  *
+ * A LEAD counts a single time. A graph that is not observable (no input is) and that exactly one node of
+ * the card reads is a lead, with no stem: held at 0 it is caught by the same vectors as that node stuck at
+ * its 0-exit, and held at 1 as at its 1-exit. Its two faults do not count in the grade. All others do, also
+ * those of a graph that nobody reads. How many count is found from the card's words (examples/host.c does it).
+ *
  * A VECTOR for m inputs is w = m / 16 words, rounded up: A0000000 plus, in bit i of word j, the value
  * of input 16 * j + i. A list has 0 to 65,535 vectors, one after the other, numbered from 0.
  *
@@ -21,7 +26,7 @@
  * and B's follow them. All else stays as it was.
  *
  * THE ANSWER of every call is one 64-bit number. Below 4294967296 the call is done, and the number is
- *   - of card_grade, the marked count: how many of the F faults are caught;
+ *   - of card_grade, the marked count: how many of the faults that count are caught;
  *   - of card_change_list, the length of the list;
  *   - of card_join, the number of words of the joined card;
  *   - of the other calls, 0.
@@ -111,8 +116,8 @@ uint64_t card_critical_nodes(const uint8_t *card, size_t card_len, const uint8_t
 /* Grades a list. Writes F words of marks: for each fault C0000000 where no vector catches it, else
  * E0000000 plus the number of the first that does. And F words of tallies: for each fault the number of
  * vectors that catch it, a repeated vector counted each time; it is 0 exactly where the mark is C0000000.
- * Answers the marked count. Refusal 12 at 0 with under F whole words of marks, else at 1 with under F
- * whole words of tallies. */
+ * All F faults have both words. Answers the marked count, which leaves out the faults of leads. Refusal 12 at
+ * 0 with under F whole words of marks, else at 1 with under F whole words of tallies. */
 uint64_t card_grade(const uint8_t *card, size_t card_len, const uint8_t *vectors, size_t vectors_len,
                     uint8_t *marks, size_t marks_len, uint8_t *tallies, size_t tallies_len);
 

@@ -22,6 +22,7 @@ struct card {
     unsigned home[MAX_NODES];       /* the graph that a node stands in */
     unsigned read[MAX_NODES];       /* the graph that it reads */
     unsigned exit[MAX_NODES][2];
+    unsigned readers[MAX_GRAPHS]; /* how many nodes read a graph */
 };
 
 static struct card the_card;
@@ -149,6 +150,13 @@ static uint64_t take_graph(struct card *c, const uint8_t *card, size_t words, si
     return 0;
 }
 
+static void count_readers(struct card *c)
+{
+    memset(c->readers, 0, sizeof c->readers);
+    for (unsigned j = 0; j < c->nodes; j++)
+        c->readers[c->read[j]]++;
+}
+
 /* Takes in a card: its refusal, or 0. */
 static uint64_t take_card(struct card *c, const uint8_t *card, size_t len)
 {
@@ -167,6 +175,7 @@ static uint64_t take_card(struct card *c, const uint8_t *card, size_t len)
         return refuse(9, words);
     c->first[c->graphs] = c->nodes;
     c->faults = 2 * c->nodes + 2 * c->graphs;
+    count_readers(c);
     return 0;
 }
 
@@ -353,28 +362,49 @@ static const uint8_t *caught_by(const struct card *c, const uint8_t *vector)
 
 static uint32_t first_vector[MAX_FAULTS], tally[MAX_FAULTS];
 
-/* Takes in what vector v catches; how many faults are caught for the first time. */
-static unsigned take_in(const uint8_t *caught, unsigned faults, size_t v)
+/* Takes in what vector v catches. */
+static void take_in(const uint8_t *caught, unsigned faults, size_t v)
 {
-    unsigned marked = 0;
     for (unsigned f = 0; f < faults; f++)
-        if (caught[f] && tally[f]++ == 0) {
+        if (caught[f] && tally[f]++ == 0)
             first_vector[f] = (uint32_t)v;
-            marked++;
-        }
-    return marked;
 }
 
-/* First vectors and tallies of a whole list; the marked count. */
-static unsigned grade(const struct card *c, const uint8_t *vectors, size_t len)
+/* A graph that is not observable and that one node alone reads is a lead to that node: no stem. */
+static int has_stem(unsigned kind, unsigned readers)
 {
-    unsigned marked = 0;
+    return kind == 2 || readers != 1;
+}
+
+/* The last line: of the faults that count, how many are marked, and how many there are. */
+struct last_line {
+    unsigned marked, total;
+};
+
+/* Faults of nodes count, and those of graphs that have a stem (one byte a graph). */
+static struct last_line add_up(unsigned nodes, unsigned graphs, const uint8_t *stem)
+{
+    struct last_line n = { 0, 0 };
+    for (unsigned f = 0; f < 2 * nodes + 2 * graphs; f++)
+        if (f < 2 * nodes || stem[f / 2 - nodes]) {
+            n.marked += tally[f] != 0;
+            n.total++;
+        }
+    return n;
+}
+
+/* First vectors and tallies of a whole list. */
+static struct last_line grade(const struct card *c, const uint8_t *vectors, size_t len)
+{
+    static uint8_t stem[MAX_GRAPHS];
     memset(tally, 0, sizeof tally);
     for (unsigned i = 0; i < KEPT; i++)
         kept[i].vector = NULL;
     for (size_t v = 0; v < len / 4 / width(c); v++)
-        marked += take_in(caught_by(c, vectors + 4 * width(c) * v), c->faults, v);
-    return marked;
+        take_in(caught_by(c, vectors + 4 * width(c) * v), c->faults, v);
+    for (unsigned g = 0; g < c->graphs; g++)
+        stem[g] = (uint8_t)has_stem(c->kind[g], c->readers[g]);
+    return add_up(c->nodes, c->graphs, stem);
 }
 
 static void put_grade(uint8_t *marks, uint8_t *tallies, unsigned faults)
@@ -485,7 +515,7 @@ uint64_t brute_critical_nodes(const uint8_t *card, size_t card_len, const uint8_
 uint64_t brute_grade(const uint8_t *card, size_t card_len, const uint8_t *vectors, size_t vectors_len,
                      uint8_t *marks, size_t marks_len, uint8_t *tallies, size_t tallies_len)
 {
-    unsigned marked;
+    struct last_line n;
     uint64_t r = take(card, card_len, vectors, vectors_len, 0);
     if (r)
         return r;
@@ -493,9 +523,22 @@ uint64_t brute_grade(const uint8_t *card, size_t card_len, const uint8_t *vector
         return refuse(12, 0);
     if (tallies_len / 4 < the_card.faults)
         return refuse(12, 1);
-    marked = grade(&the_card, vectors, vectors_len);
+    n = grade(&the_card, vectors, vectors_len);
     put_grade(marks, tallies, the_card.faults);
-    return marked;
+    return n.marked;
+}
+
+/* ---- a lead and its reader ---- */
+
+long brute_lead_to(uint32_t graph)
+{
+    const struct card *c = &the_card;
+    unsigned j = 0;
+    if (has_stem(c->kind[graph], c->readers[graph]))
+        return -1;
+    while (c->read[j] != graph)
+        j++;
+    return j;
 }
 
 /* ---- two cards wired together ---- */
@@ -638,12 +681,23 @@ void brute_together_values(const uint8_t *vector, long fault, uint8_t *values)
         put_word(values, g, (both.origin[g].card == &both.a ? v.a : v.b)[both.origin[g].graph]);
 }
 
+/* How many nodes of both cards read a graph of the joined one. Those of B that read a wired input read the graph of A on its wire. */
+static unsigned readers_together(unsigned g)
+{
+    const struct card *c = both.origin[g].card;
+    unsigned own = both.origin[g].graph, readers = c->readers[own];
+    for (unsigned i = 0; c == &both.a && i < both.b.inputs; i++)
+        if (both.wire[i] == own)
+            readers += both.b.readers[i];
+    return readers;
+}
+
 uint64_t brute_together_grade(const uint8_t *vectors, size_t vectors_len, uint8_t *marks, uint8_t *tallies)
 {
     static struct pair_values good, other;
-    static uint8_t caught[MAX_FAULTS];
+    static uint8_t caught[MAX_FAULTS], stem[MAX_GRAPHS];
     size_t w = (both.inputs + 15) / 16;
-    unsigned marked = 0, faults = 2 * both.nodes + 2 * both.graphs;
+    unsigned faults = 2 * both.nodes + 2 * both.graphs;
     memset(tally, 0, sizeof tally);
     for (size_t v = 0; v < vectors_len / 4 / w; v++) {
         const uint8_t *vector = vectors + 4 * w * v;
@@ -652,15 +706,17 @@ uint64_t brute_together_grade(const uint8_t *vectors, size_t vectors_len, uint8_
             together(vector, f, &other);
             caught[f] = observed(&both.a, good.a, other.a) || observed(&both.b, good.b, other.b);
         }
-        marked += take_in(caught, faults, v);
+        take_in(caught, faults, v);
     }
     put_grade(marks, tallies, faults);
-    return marked;
+    for (unsigned g = 0; g < both.graphs; g++)
+        stem[g] = (uint8_t)has_stem(both.origin[g].card->kind[both.origin[g].graph], readers_together(g));
+    return add_up(both.nodes, both.graphs, stem).marked;
 }
 
 /* ---- the program's text ---- */
 
-static size_t graded_text(unsigned marked, char *text)
+static size_t graded_text(struct last_line n, char *text)
 {
     const struct card *c = &the_card;
     char *t = text;
@@ -670,7 +726,7 @@ static size_t graded_text(unsigned marked, char *text)
             t += sprintf(t, "%u %u %u\n", f, (unsigned)first_vector[f], (unsigned)tally[f]);
         else
             t += sprintf(t, "%u - 0\n", f);
-    t += sprintf(t, "grade %u %u\n", marked, c->faults);
+    t += sprintf(t, "grade %u %u\n", n.marked, n.total);
     return (size_t)(t - text);
 }
 

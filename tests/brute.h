@@ -25,12 +25,16 @@ uint64_t brute_join(const uint8_t *a, size_t a_len, const uint8_t *b, size_t b_l
                     uint8_t *card, size_t card_len);
 
 /* The two cards that brute_join has joined last, worked out together, A and then B with what A has on its
- * wires: no joined card is looked at. Vectors, faults and graphs are told as of the joined card, with
- * right vectors and enough room. The values with a fault in, or with none at BRUTE_NO_FAULT; the marks
- * and tallies of a list, and the marked count. */
+ * wires: no joined card is looked at, also not for the readers of a graph. Vectors, faults and graphs are
+ * told as of the joined card, with right vectors and enough room. The values with a fault in, or with none
+ * at BRUTE_NO_FAULT; the marks and tallies of a list, and the marked count. */
 enum { BRUTE_NO_FAULT = -1 };
 void brute_together_values(const uint8_t *vector, long fault, uint8_t *values);
 uint64_t brute_together_grade(const uint8_t *vectors, size_t vectors_len, uint8_t *marks, uint8_t *tallies);
+
+/* Of the card that a call other than brute_join accepted last: the node that a graph is a lead to, being its
+ * one reader, or -1 where the graph has a stem. */
+long brute_lead_to(uint32_t graph);
 
 /* What cardgrade prints for these bytes; the text's length. The room is at least BRUTE_TEXT. */
 enum { BRUTE_TEXT = 400000 };

@@ -453,20 +453,20 @@ static const struct grade_case {
     /* document 01: S under both vectors */
     { CARD_S, "", W(12), W(12), "0: C0000000*12 | 0*12" },
     { CARD_S, "A0000000", W(12), W(12), "2: C0000000*7 E0000000 C0000000*3 E0000000 | 0*7 1 0*3 1" },
-    { CARD_S, "A0000001", W(12), W(12), "6: " S_MARKS_1 " | 1 0 1 0 1 0 1 0 1 0 1 0" },
-    { CARD_S, "A0000000 A0000001", W(14), W(14), "8: " S_MARKS_01 " | 1 0 1 0 1 0 1 1 1 0 1 1" },
+    { CARD_S, "A0000001", W(12), W(12), "5: " S_MARKS_1 " | 1 0 1 0 1 0 1 0 1 0 1 0" },
+    { CARD_S, "A0000000 A0000001", W(14), W(14), "7: " S_MARKS_01 " | 1 0 1 0 1 0 1 1 1 0 1 1" },
     /* a repeated vector counts each time; the first vector stays the first */
-    { CARD_S, "A0000000 A0000001 A0000000", W(12), W(12), "8: " S_MARKS_01 " | 1 0 1 0 1 0 1 2 1 0 1 2" },
-    { CARD_S, "A0000000 A0000001 A0000000 A0000000 A0000001", W(12), W(12), "8: " S_MARKS_01 " | 2 0 2 0 2 0 2 3 2 0 2 3" },
+    { CARD_S, "A0000000 A0000001 A0000000", W(12), W(12), "7: " S_MARKS_01 " | 1 0 1 0 1 0 1 2 1 0 1 2" },
+    { CARD_S, "A0000000 A0000001 A0000000 A0000000 A0000001", W(12), W(12), "7: " S_MARKS_01 " | 2 0 2 0 2 0 2 3 2 0 2 3" },
     { CARD_S, "A0000001 A0000001 A0000000", W(12), W(12),
-      "8: E0000000 C0000000 E0000000 C0000000 E0000000 C0000000 E0000000 E0000002 E0000000 C0000000 E0000000 E0000002 | "
+      "7: E0000000 C0000000 E0000000 C0000000 E0000000 C0000000 E0000000 E0000002 E0000000 C0000000 E0000000 E0000002 | "
       "2 0 2 0 2 0 2 1 2 0 2 1" },
     /* document 01: Akers's f under A0000004 */
     { CARD_F, "A0000004", W(14), W(14),
-      "5: C0000000*3 E0000000*2 C0000000*4 E0000000*2 C0000000 E0000000 C0000000 | 0 0 0 1 1 0 0 0 0 1 1 0 1 0" },
+      "3: C0000000*3 E0000000*2 C0000000*4 E0000000*2 C0000000 E0000000 C0000000 | 0 0 0 1 1 0 0 0 0 1 1 0 1 0" },
     /* an observable graph that is read, a graph that nobody reads, a node with equal exits */
     { "0 40000001 60000000 80000001 20000001 60000001 80000001", "A0000000", W(10), W(10),
-      "3: C0000000 E0000000 C0000000*3 E0000000 C0000000 E0000000 C0000000*2 | 0 1 0 0 0 1 0 1 0 0" },
+      "2: C0000000 E0000000 C0000000*3 E0000000 C0000000 E0000000 C0000000*2 | 0 1 0 0 0 1 0 1 0 0" },
     { "0 40000002 60000000 8000C003 60000000 80000001", "A0000001", W(8), W(8),
       "3: C0000000*2 E0000000 C0000000 E0000000 C0000000 E0000000 C0000000 | 0 0 1 0 1 0 1 0" },
     /* marks too short: at 0, whatever the tallies' room is */
@@ -491,7 +491,7 @@ static const struct grade_case {
     { CARD_S, "", W(12) + 3, W(12) + 1, "0: C0000000*12 | 0*12" },
     { CARD_S, "A0000000", W(12), W(12) + 3, "2: C0000000*7 E0000000 C0000000*3 E0000000 | 0*7 1 0*3 1" },
     { CARD_S, "A0000000", W(40), W(12), "2: C0000000*7 E0000000 C0000000*3 E0000000 | 0*7 1 0*3 1" },
-    { CARD_S, "A0000001", W(12) + 1, W(12) + 2, "6: " S_MARKS_1 " | 1 0 1 0 1 0 1 0 1 0 1 0" },
+    { CARD_S, "A0000001", W(12) + 1, W(12) + 2, "5: " S_MARKS_1 " | 1 0 1 0 1 0 1 0 1 0 1 0" },
     /* leftover bytes of a card: 4 at the word count, before 10 and 12 */
     { CARD_S " +3", "A0000001 +1", 0, 0, "refused 4 9" },
     { CARD_S " +3", "A0000001 +1", W(12), 0, "refused 4 9" },
@@ -504,7 +504,7 @@ static const struct grade_case {
     { CARD_17, "A0000000 A0000000 A0000000 A0000002 | A0000000*3 60000000 | A0000000*3 A0010000", W(38), W(38), "refused 10 3" },
     { CARD_17, "A0000000*2 60000000 A0000002 | A0000000*2 A0010000 60000000", W(38), W(38), "refused 10 2" },
     { CARD_17, "A0000000*2 A0000001 A0000001", W(38), W(38),
-      "3: C0000000 E0000000 C0000000*31 E0000000 C0000000*3 E0000000 | 0 2 0*31 2 0 0 0 2" },
+      "2: C0000000 E0000000 C0000000*31 E0000000 C0000000*3 E0000000 | 0 2 0*31 2 0 0 0 2" },
     { CARD_S, "A0000000 60000000 | A0000001 A0000002", W(12), W(12), "refused 10 1" },
     /* orders: 9, 10, 12 of the marks, 12 of the tallies */
     { CUT_S, "60000000", 0, 0, "refused 9 4" },
@@ -516,25 +516,59 @@ static const struct grade_case {
     { CARD_S, "A0000000 A0000000 60000000", W(12), W(11), "refused 10 2" },
     /* 65,535 vectors, and one more */
     { CARD_S, "A0000001*65535", W(12), W(12),
-      "6: " S_MARKS_1 " | 65535 0 65535 0 65535 0 65535 0 65535 0 65535 0" },
+      "5: " S_MARKS_1 " | 65535 0 65535 0 65535 0 65535 0 65535 0 65535 0" },
     { CARD_S, "A0000000*65534 A0000001", W(12), W(12),
-      "8: E000FFFE C0000000 E000FFFE C0000000 E000FFFE C0000000 E000FFFE E0000000 E000FFFE C0000000 E000FFFE E0000000 | "
+      "7: E000FFFE C0000000 E000FFFE C0000000 E000FFFE C0000000 E000FFFE E0000000 E000FFFE C0000000 E000FFFE E0000000 | "
       "1 0 1 0 1 0 1 65534 1 0 1 65534" },
     { CARD_S, "A0000001*65536 | 60000000*65536 | A0000001 60000000*65535 | A0000001*65536 +1", W(12), W(12), "refused 10 0" },
     { CARD_S, "A0000001*65534 60000000", W(12), W(12), "refused 10 65534" },
     { CARD_17, "A0000000*131070", W(38), W(38),
-      "3: C0000000 E0000000 C0000000*31 E0000000 C0000000*3 E0000000 | 0 65535 0*31 65535 0 0 0 65535" },
+      "2: C0000000 E0000000 C0000000*31 E0000000 C0000000*3 E0000000 | 0 65535 0*31 65535 0 0 0 65535" },
     { CARD_17, "A0000000*131072 | A0000000*131071 | A0000000 60000000 A0000000*131070", W(38), W(38), "refused 10 0" },
-    /* S on S's observable graph: with input 1 all is 1 and every stuck 0 is seen; with 0 graphs 0, 2 and 4 held at 1 are */
+    /* S on S's observable graph: with input 1 all is 1 and every stuck 0 is seen; with 0 graphs 0, 2 and 4 held at 1 are. Graphs 1
+     * and 3 are leads. */
     { S_ON_2, "A0000001", W(22), W(22),
-      "11: " S_MARKS_1 " E0000000 C0000000 E0000000 C0000000 E0000000 C0000000 E0000000 C0000000 E0000000 C0000000 | "
+      "9: " S_MARKS_1 " E0000000 C0000000 E0000000 C0000000 E0000000 C0000000 E0000000 C0000000 E0000000 C0000000 | "
       "1 0 1 0 1 0 1 0 1 0 1 0 1 0 1 0 1 0 1 0 1 0" },
     { S_ON_2, "A0000000", W(22), W(22),
       "3: C0000000*13 E0000000 C0000000*3 E0000000 C0000000*3 E0000000 | 0*12 0 1 0 0 0 1 0 0 0 1" },
     /* S beside S: what each vector catches on its own S */
     { S_FREE, "A0000001", W(24), W(24),
-      "8: E0000000 C0000000 E0000000 C0000000 E0000000 C0000000*7 E0000000 C0000000*2 E0000000 E0000000 C0000000 E0000000 "
+      "7: E0000000 C0000000 E0000000 C0000000 E0000000 C0000000*7 E0000000 C0000000*2 E0000000 E0000000 C0000000 E0000000 "
       "C0000000*4 E0000000 | 1 0 1 0 1 0 0*6 1 0 0 1 1 0 1 0 0 0 0 1" },
+    /* A graph that two nodes of one graph read counts: nodes are counted, and not graphs. Held at 1 it is seen under A0000000 (9),
+     * but neither node stuck at its 1-exit is (3, 5), so its faults are those of no one node. The input, with one reader, is left out. */
+    { "0 20000001 60000000 80000001 40000002 60000001 80000003 60000001 80000001", "A0000000 A0000001", W(12), W(12),
+      "8: E0000001 E0000000 E0000001 C0000000 E0000001 C0000000 E0000001 E0000000 E0000001 E0000000 E0000001 E0000000 | "
+      "1 1 1 0 1 0 1*6" },
+    /* A graph that nobody reads counts, though no fault of it is caught. Its node is a reader of the input, if one of which
+     * nothing is seen, so the input has two and counts. */
+    { "0 20000001 60000000 80000001 40000001 60000000 80000001", "A0000000 A0000001", W(10), W(10),
+      "6: C0000000*2 E0000001 E0000000 E0000001 E0000000 C0000000*2 E0000001 E0000000 | 0 0 1 1 1 1 0 0 1 1" },
+    /* An observable graph with one reader counts: A seen, and A and B. Under A = 1, B = 0 graph 2 held at 0 (10) is seen at once, and its
+     * reader stuck at its 0-exit (2) is not. The inputs A and B are left out, with 6 and 9 marked. */
+    { "0 0 40000001 60000000 80000001 40000002 60000002 80000003 60000001 80000001", "A0000001", W(14), W(14),
+      "4: E0000000 C0000000*4 E0000000*2 C0000000*2 E0000000*2 C0000000*2 E0000000 | 1 0 0 0 0 1 1 0 0 1 1 0 0 1" },
+    /* An input with one reader does not count, as no input is observable: four of six, all being caught. */
+    { "0 40000001 60000000 80000001", "A0000000 A0000001", W(6), W(6),
+      "4: E0000001 E0000000 E0000001 E0000000 E0000001 E0000000 | 1*6" },
+    /* One reader is one, though both its exits are 1 and it is never seen: graph 1 held at 0 is all that is caught, and counts. */
+    { "0 40000001 60000000 80004001", "A0000000 A0000001", W(6), W(6), "1: C0000000*4 E0000000 C0000000 | 0 0 0 0 2 0" },
+    /* A chain of leads, each left out: A, a copy of it, its opposite and a copy of that, seen in a fourth graph. All 18 faults are
+     * caught, and those of the four nodes and of the observable graph count. Under A0000000 half of both are. */
+    { "0 20000001 60000000 80000001 20000001 60000001 80004000 20000001 60000002 80000001 40000001 60000003 80000001",
+      "A0000000 A0000001", W(18), W(18),
+      "10: E0000001 E0000000 E0000001 E0000000*2 E0000001 E0000000 E0000001*2 E0000000 E0000001 E0000000*2 E0000001 E0000000 E0000001 "
+      "E0000000 E0000001 | 1*18" },
+    { "0 20000001 60000000 80000001 20000001 60000001 80004000 20000001 60000002 80000001 40000001 60000003 80000001",
+      "A0000000", W(18), W(18),
+      "5: C0000000 E0000000 C0000000 E0000000*2 C0000000 E0000000 C0000000*2 E0000000 C0000000 E0000000*2 C0000000 E0000000 C0000000 "
+      "E0000000 C0000000 | 0 1 0 1 1 0 1 0 0 1 0 1 1 0 1 0 1 0" },
+    /* Every graph but the observable ones is left out: A, B and C, and the hidden A and B, which graph 4 shows; graph 5 is not C. With
+     * all three 1, ten faults are caught, and four of them are of leads (8, 10, 12, 14). */
+    { "0 0 0 20000002 60000000 80000003 60000001 80000001 40000001 60000003 80000001 40000001 60000002 80004000", "A0000007", W(20), W(20),
+      "6: E0000000 C0000000 E0000000 C0000000 E0000000 C0000000 E0000000 C0000000 E0000000 C0000000 E0000000 C0000000 E0000000 C0000000 "
+      "E0000000 C0000000 E0000000 C0000000*2 E0000000 | 1 0 1 0 1 0 1 0 1 0 1 0 1 0 1 0 1 0 0 1" },
 };
 
 /* ---- two cards wired together: name, card A, card B, its wires (once, or several with | between), the
@@ -940,7 +974,8 @@ static void run_joins(void)
 
 /* The longest lists: vectors of 64 words for 1,023 inputs, all of them 1, 65,536 of them in 16 MiB. The
  * graph reads the last input, so of the 2,050 faults the node's 0-exit (0) and the two graphs held at 0
- * on its way (2,046 and 2,048) are caught. A word that is wrong at the very end is found. */
+ * on its way (2,046 and 2,048) are caught; the input is a lead, so two of them count. A word that is wrong
+ * at the very end is found. */
 static void run_longest_lists(void)
 {
     struct asked a = { .call = GRADE };
@@ -956,7 +991,7 @@ static void run_longest_lists(void)
     a.vectors = list;
     a.vectors_len = 4 * 64 * 200;
     one_call("200 vectors of 64 words", &a, W(2050), W(2050),
-             "3: E0000000 C0000000*2045 E0000000 C0000000 E0000000 C0000000 | 200 0*2045 200 0 200 0");
+             "2: E0000000 C0000000*2045 E0000000 C0000000 E0000000 C0000000 | 200 0*2045 200 0 200 0");
     a.vectors_len = 4 * words;
     one_call("65,536 vectors of 64 words", &a, W(2050), W(2050), "refused 10 0");
     a.vectors_len = 4 * (words - 64);

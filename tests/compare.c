@@ -1,6 +1,8 @@
 /* compare.c: see compare.h. */
 #include "compare.h"
 
+#include "brute.h"
+
 #include <stdio.h>
 #include <string.h>
 
@@ -118,6 +120,28 @@ uint64_t compare(const struct asked *a, size_t room, size_t tallies_room)
     if (got != want || !is_right(&buffer) || !is_right(&tallies) || !is_right(&card) || !is_right(&second) || !is_right(&vectors))
         show_difference(a, got, want);
     return want;
+}
+
+/* ---- a lead and its reader ---- */
+
+static void one_pair(size_t of_graph, size_t of_node, const uint8_t *marks, const uint8_t *tally_words)
+{
+    compared.pairs++;
+    compared.caught_pairs += word_at(tally_words, of_graph) != 0;
+    if (word_at(marks, of_graph) != word_at(marks, of_node) || word_at(tally_words, of_graph) != word_at(tally_words, of_node))
+        differ("a lead's fault and its reader's");
+}
+
+void compare_pairs(const uint8_t *words, size_t len, const uint8_t *marks, const uint8_t *tally_words)
+{
+    uint8_t numbers[20];
+    if (brute_check(words, len, numbers, sizeof numbers))
+        return;
+    for (uint32_t g = 0; g < word_at(numbers, 1); g++) {
+        long reader = brute_lead_to(g);
+        for (size_t d = 0; reader >= 0 && d < 2; d++)
+            one_pair(2 * ((size_t)word_at(numbers, 2) + g) + d, 2 * (size_t)reader + d, marks, tally_words);
+    }
 }
 
 /* ---- rooms, and the report ---- */

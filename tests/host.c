@@ -71,6 +71,7 @@ static void take_grade(const struct asked *a, uint64_t answer, size_t room, size
     total.grade[MARKS_ODD] += room % 4 != 0;
     total.grade[TALLIES_ODD] += tallies_room % 4 != 0;
     check_law(faults);
+    compare_pairs(a->card, a->card_len, compared.buffer, compared.tallies);
 }
 
 /* ---- one call ---- */
@@ -199,7 +200,7 @@ static int reached_too_little(void)
         few += too_few("one refusal", compared.refusals[r], 20);
     for (int i = 0; i < GRADED; i++)
         few += too_few(grades[i].name, total.grade[i], grades[i].least);
-    return few;
+    return few + too_few("caught faults of leads", compared.caught_pairs, 3000);
 }
 
 static void report(void)
@@ -215,6 +216,7 @@ static void report(void)
     for (int i = 0; i < GRADED; i++)
         printf("%s %s %u", i ? "," : "", grades[i].name, total.grade[i]);
     printf("\nhost: lists of 0, 1, 65535, 65536 vectors: %u %u %u %u\n", total.lists[0], total.lists[1], total.lists[2], total.lists[3]);
+    printf("host: %u faults of leads as their readers', %u of them caught\n", compared.pairs, compared.caught_pairs);
     printf("host: %u differ\n", compared.differ);
 }
 

@@ -110,6 +110,7 @@ static void compare_grading(struct asked *a, const struct numbers *n)
         differ("the joined card's marks");
     if (memcmp(got_tallies, want_tallies, 4 * faults))
         differ("the joined card's tallies");
+    compare_pairs(a->card, a->card_len, got, got_tallies);
     total.gradings++;
     total.faults += (unsigned)faults;
 }
@@ -236,7 +237,7 @@ static int reached_too_little(void)
             few += too_few("leftovers in one part", total.odd[part][odd], 20);
     for (int beyond = 0; beyond < 2; beyond++)
         few += too_few("joined cards at a limit", total.graphs[beyond], 5) + too_few("joined cards at a limit", total.nodes[beyond], 5);
-    return few + too_few("gradings", total.gradings, 1000);
+    return few + too_few("gradings", total.gradings, 1000) + too_few("caught faults of leads", compared.caught_pairs, 3000);
 }
 
 static void report(void)
@@ -261,6 +262,7 @@ static void report(void)
                total.odd[part][2], total.odd[part][3]);
     printf("\njoin: with 1024 graphs %u, 1025 %u; with 4096 nodes %u, 4097 %u\n", total.graphs[0], total.graphs[1], total.nodes[0],
            total.nodes[1]);
+    printf("join: %u faults of leads as their readers', %u of them caught\n", compared.pairs, compared.caught_pairs);
     printf("join: %u differ\n", compared.differ);
 }
 

@@ -2,7 +2,7 @@
  *
  * The card has 1,023 inputs and one observable graph that copies input WATCHED. So a vector catches the faults that
  * hold the input, the graph or its node at the opposite of the input's value, and nothing else: what is expected
- * is counted from the vectors alone.
+ * is counted from the vectors alone. The input is a lead to the node, so its two faults are not in the marked count.
  */
 #include "../include/cardhost.h"
 
@@ -75,7 +75,7 @@ int main(void)
     put(card, INPUTS + 2, 0x80000001);
     fill(vectors);
     uint64_t marked = card_grade(card, sizeof card, vectors, len, marks, sizeof marks, tallies, sizeof tallies);
-    unsigned wrong = (marked != 6) + differ();
+    unsigned wrong = (marked != 4) + differ();
     printf("long: %d vectors of %d words graded, %u differ\n", VECTORS, WIDTH, wrong);
     free(vectors);
     return wrong != 0;

@@ -181,12 +181,12 @@ static const struct fixed {
     unsigned odd;
     const char *want;
 } fixed_inputs[] = {
-    { 9, 9, 1, 0xA0000001, 0, /* document 01's own lines */
-      "card 1 3 3 12\n0 1 1\n1 - 0\n2 1 1\n3 - 0\n4 1 1\n5 - 0\n6 1 1\n7 0 1\n8 1 1\n9 - 0\n10 1 1\n11 0 1\ngrade 8 12\n" },
+    { 9, 9, 1, 0xA0000001, 0, /* document 01's own lines, the last one document 02's */
+      "card 1 3 3 12\n0 1 1\n1 - 0\n2 1 1\n3 - 0\n4 1 1\n5 - 0\n6 1 1\n7 0 1\n8 1 1\n9 - 0\n10 1 1\n11 0 1\ngrade 7 10\n" },
     { 9, 9, 0, 0, 0, /* no vectors */
-      "card 1 3 3 12\n0 - 0\n1 - 0\n2 - 0\n3 - 0\n4 - 0\n5 - 0\n6 - 0\n7 - 0\n8 - 0\n9 - 0\n10 - 0\n11 - 0\ngrade 0 12\n" },
+      "card 1 3 3 12\n0 - 0\n1 - 0\n2 - 0\n3 - 0\n4 - 0\n5 - 0\n6 - 0\n7 - 0\n8 - 0\n9 - 0\n10 - 0\n11 - 0\ngrade 0 10\n" },
     { 9, 9, 16384, 0, 0,
-      "card 1 3 3 12\n0 - 0\n1 - 0\n2 - 0\n3 - 0\n4 - 0\n5 - 0\n6 - 0\n7 0 16384\n8 - 0\n9 - 0\n10 - 0\n11 0 16384\ngrade 2 12\n" },
+      "card 1 3 3 12\n0 - 0\n1 - 0\n2 - 0\n3 - 0\n4 - 0\n5 - 0\n6 - 0\n7 0 16384\n8 - 0\n9 - 0\n10 - 0\n11 0 16384\ngrade 2 10\n" },
     { 9, 9, 16385, 0, 0, "long\n" },
     { 9, 9, 16385, 0, 3, "long\n" },
     { 9, 9, 16384, 0, 1, "short\n" },
@@ -227,6 +227,52 @@ static void assemble_fixed(const struct fixed *f)
     len += gen_bytes(list, n, f->odd, bytes + len);
 }
 
+/* Which graphs count, by the last line: a card, and A0000000 and A0000001 as its vectors. The marked count alone does not tell
+ * a graph of which no fault is caught. tests/cases.c has marks and tallies of such cards. */
+static const struct stems {
+    uint32_t words[16], count;
+    const char *want;
+} stem_inputs[] = {
+    /* card S: the hidden graph is left out, the input has two readers */
+    { { 0, 0x20000001, 0x60000000, 0x80000001, 0x40000002, 0x60000001, 0x80000003, 0x60000000, 0x80000001 }, 9, "grade 7 10\n" },
+    /* the hidden graph is read by two nodes of one graph: it counts, and the input does not */
+    { { 0, 0x20000001, 0x60000000, 0x80000001, 0x40000002, 0x60000001, 0x80000003, 0x60000001, 0x80000001 }, 9, "grade 8 10\n" },
+    /* nobody reads the hidden graph: it counts, and its node is a reader of the input, which counts too */
+    { { 0, 0x20000001, 0x60000000, 0x80000001, 0x40000001, 0x60000000, 0x80000001 }, 7, "grade 6 10\n" },
+    /* an input that nobody reads, beside one with one reader */
+    { { 0, 0, 0x40000001, 0x60000000, 0x80000001 }, 5, "grade 4 6\n" },
+    /* one reader, of which nothing is seen: the hidden graph 2 is left out all the same */
+    { { 0, 0x40000001, 0x60000000, 0x80000001, 0x20000001, 0x60000000, 0x80000001, 0x20000001, 0x60000002, 0x80000001 }, 10, "grade 6 12\n" },
+    /* one reader, with equal exits: the input is left out all the same */
+    { { 0, 0x40000001, 0x60000000, 0x80004001 }, 4, "grade 1 4\n" },
+    /* an observable graph with one reader counts */
+    { { 0, 0, 0x40000001, 0x60000000, 0x80000001, 0x40000002, 0x60000002, 0x80000003, 0x60000001, 0x80000001 }, 10, "grade 6 10\n" },
+    /* an input with one reader, and nothing else */
+    { { 0, 0x40000001, 0x60000000, 0x80000001 }, 4, "grade 4 4\n" },
+    /* a chain of leads: the input and three hidden graphs are left out */
+    { { 0, 0x20000001, 0x60000000, 0x80000001, 0x20000001, 0x60000001, 0x80004000, 0x20000001, 0x60000002, 0x80000001, 0x40000001, 0x60000003,
+        0x80000001 }, 13, "grade 10 10\n" },
+    /* three inputs and a hidden graph, all left out */
+    { { 0, 0, 0, 0x20000002, 0x60000000, 0x80000003, 0x60000001, 0x80000001, 0x40000001, 0x60000003, 0x80000001, 0x40000001, 0x60000002,
+        0x80004000 }, 14, "grade 5 12\n" },
+};
+
+/* The last line of brute force's text, which is the program's too, is what stands here. */
+static void expect_last_line(const char *program, FILE *output, const struct stems *s)
+{
+    static const uint32_t both[] = { 0xA0000000, 0xA0000001 };
+    size_t n = strlen(s->want), at;
+    len = gen_bytes(&s->count, 1, 0, bytes);
+    len += gen_bytes(s->words, s->count, 0, bytes + len);
+    len += gen_bytes(both, 2, 0, bytes + len);
+    compare(program, output);
+    at = brute_text(bytes, len, want);
+    if (at < n || memcmp(want + at - n, s->want, n)) {
+        printf("DIFFERENCE: last line %u, expected %s", total.inputs, s->want);
+        total.differ++;
+    }
+}
+
 /* The program gives brute force's text, and both are what stands here. */
 static void expect(const char *program, FILE *output, const char *text)
 {
@@ -243,6 +289,8 @@ static void run_fixed(const char *program, FILE *output)
         assemble_fixed(fixed_inputs + i);
         expect(program, output, fixed_inputs[i].want);
     }
+    for (size_t i = 0; i < sizeof stem_inputs / sizeof *stem_inputs; i++)
+        expect_last_line(program, output, stem_inputs + i);
     for (unsigned n = 0; n < 4; n++) {
         memset(bytes, 0xFF, n);
         len = n;

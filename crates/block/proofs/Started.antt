@@ -2,11 +2,13 @@
 use Prim.Native.Nat.{ℕ, _<_, _≤_}
 use mathlib.Core.Path.{_≡_, sym, ap, _∙_}
 use mathlib.Core.List.{List}
+use mathlib.Core.Bool.{_&&_}
 use native.Mathlib.Omega.{arith}
 use lib.ListN.{length, getD}
 use lib.Dec.{ltb}
 use Rattle.lists.specs.Tables.{over, always}
 use Rattle.lists.proofs.Counting.{count-none}
+use Rattle.lists.proofs.Tests.{and-none}
 use Rattle.lists.proofs.Tables.{over-at, length-over}
 use Rattle.answers.specs.declared.Counts.{Counts}
 use Rattle.running.specs.declared.Running.{Running}
@@ -18,10 +20,10 @@ pub begun : {xs us ys ts : List ℕ} {c : Counts} {r : Running} → c .faults �
 unfolding found
 begun {xs} {us} {ys} {ts} {c} {r} h l e z v m = record {
   vector = v;
-  counted = record {
+  counted = λ k. record {
     marks-long = rw (e, length-over (always 0xC0000000) xs (c .faults) h) h;
     tallies-long = rw (z, length-over (always 0) us (c .faults) l) l;
-    number = m ∙ sym (count-none (λ f. ltb 0 (getD ts f 0)) (c .faults) (λ f i. rw (none f i)));
+    number = m ∙ sym (count-none (λ f. k f && ltb 0 (getD ts f 0)) (c .faults) (λ f i. and-none (k f) (rw (none f i))));
     small = record { word = λ f o i. rw (none f i, v) (omega arith) };
   };
   marks = e;

@@ -13,12 +13,12 @@ use borrow.Author.Tests.{ne-eqb}
 use Rattle.lists.specs.Counting.{choose, count}
 use Rattle.lists.proofs.Counting.{count-next}
 use Rattle.answers.specs.declared.Counts.{Counts}
-use Rattle.layout.specs.Layout.{first, size, reads, decision}
+use Rattle.layout.specs.Layout.{first, size, reads, decision, standsIn}
 use Rattle.layout.specs.Shape.{Shape}
 use Rattle.layout.proofs.Firsts.{decides-bit}
-use Rattle.detect.specs.Detects.{goodValue, standsIn, detects}
+use Rattle.detect.specs.Detects.{goodValue, detects}
 use Rattle.detect.specs.Grading.{detectedBy}
-use Rattle.detect.proofs.Places.{owner}
+use Rattle.layout.proofs.Stands.{owner}
 use Rattle.rules.specs.Rules.{critical, criticalNode}
 use Rattle.rules.proofs.Changes.{good-bit}
 use Rattle.rules.proofs.Told.{graph-told, node-told}

@@ -7,6 +7,7 @@ use lib.ListN.{length, getD}
 use Rattle.lists.specs.Counting.{count}
 use Rattle.lists.specs.Tables.{over, always}
 use Rattle.answers.specs.declared.Counts.{Counts}
+use Rattle.cardtables.specs.Stems.{inGrade}
 use Rattle.testvectors.specs.Vectors.{width, vectors}
 use Rattle.detect.specs.Detects.{detects}
 use Rattle.detect.specs.Grading.{detectedBy}
@@ -47,11 +48,11 @@ pub record Block (c : Counts) (vs : List ℕ) (t : ℕ) : Type 0 where
 pub record TookIn (ws : List ℕ) (c : Counts) (vs xs us ys ts : List ℕ) (r q : Running) : Type 0 where
   pub vector : q .vector ≡ r .vector + vectors (c .inputs) vs
   pub updated : UpdatedAll ws c vs (r .vector) (vectors (c .inputs) vs) xs us ys ts
-  pub counted : Counted (c .faults) ys ts q
+  pub counted : Counted (inGrade ws c) (c .faults) ys ts q
 
--- before the first vector: no fault is marked, and every tally is 0
+-- before the first vector: no fault is marked, and every tally is 0, so that it is no matter which faults count
 pub record Begun (c : Counts) (xs us ys ts : List ℕ) (r : Running) : Type 0 where
   pub vector : r .vector ≡ 0
-  pub counted : Counted (c .faults) ys ts r
+  pub counted : (k : ℕ → Bool) → Counted k (c .faults) ys ts r
   pub marks : ys ≡ over (c .faults) (always 0xC0000000) xs
   pub tallies : ts ≡ over (c .faults) (always 0) us

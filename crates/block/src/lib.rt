@@ -1,11 +1,12 @@
 // A block of vectors taken in by the running result of a grading, one vector after the other.
 ghost use Prim.Native.Nat.{_≤_, _<_};
 ghost use lib.ListN.{length};
-ghost use Rattle.layout.specs.Tables.{Tabled};
+ghost use Rattle.cardtables.specs.Stems.{inGrade};
+ghost use Rattle.cardtables.specs.Tables.{Tabled};
 ghost use Rattle.running.specs.Running.{Counted};
 ghost use Rattle.block.specs.Block.{Ends, Block, TookIn, Begun};
 use answers::Counts;
-use layout::Tables;
+use cardtables::Tables;
 use running::Running;
 
 // Before the first vector: no fault is marked, and every tally is 0.
@@ -39,7 +40,8 @@ pub fn take_block(
     marks: &mut [u32],
     tallies: &mut [u32],
 ) -> Running
-    requires { ⌜ Tabled (now card) c (now tables) × Block c (now vectors) (r .vector) × Counted (c .faults) (now marks) (now tallies) r ⌝ }
+    requires { ⌜ Tabled (now card) c (now tables) × Block c (now vectors) (r .vector)
+        × Counted (inGrade (now card) c) (c .faults) (now marks) (now tallies) r ⌝ }
     ensures { λ q. ⌜ TookIn (now (card .entry)) c (now (vectors .entry)) (now (marks .entry)) (now (tallies .entry)) (now (marks .exit)) (now (tallies .exit)) r q ⌝ }
 {
     let mut values = layout::place_table();
@@ -47,12 +49,14 @@ pub fn take_block(
     let mut caught = layout::place_table();
     let n = testvectors::count_vectors(c.inputs, vectors);
     let all = c.nodes + c.graphs;
+    let words = &tables[..];
+    let graded = &words[cardtables::grade_words()..];
     let mut q = r;
     let mut i = 0;
     while i < n {
         let vector = testvectors::vector_at(c.inputs, vectors, i);
         catches::catch_vector(card, c, tables, vector, &mut values, &mut walk, &mut caught);
-        q = q.take_in(all, &caught, marks, tallies);
+        q = q.take_in(all, &caught, graded, marks, tallies);
         i += 1;
     }
     q

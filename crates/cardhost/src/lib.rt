@@ -59,7 +59,7 @@ pub extern "C" fn card_critical_nodes(card: &[u8], vector: &[u8], nodes: &mut [u
 }
 
 // The grading: for each fault its mark, C0000000 if no vector catches it, else E0000000 plus the number of the earliest that does; its tally, the number of
-// vectors that catch it; and the marked count.
+// vectors that catch it; and the marked count, of the faults that count in the grade.
 #[no_mangle]
 pub extern "C" fn card_grade(
     card: &[u8],

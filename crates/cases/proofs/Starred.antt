@@ -1,4 +1,4 @@
--- Document 01's starred cases, by computing: row by row, one `refl` for each equation of `Holds`. Assumes nothing.
+-- The rows of cases, by computing: row by row, one `refl` for each equation of `Holds`. Assumes nothing.
 use mathlib.Core.Path.{refl}
 use mathlib.Mathlib.Data.List.Defs.{Forall}
 use Rattle.lists.specs.Tables.{chosen}
@@ -6,6 +6,7 @@ use Rattle.form.specs.Check.{checkedWith}
 use Rattle.answers.specs.Answers.{answerTold, replyTold}
 use Rattle.answers.specs.Calls.{replied, written}
 use Rattle.layout.specs.Layout.{isInput, observable, size, reads, exits, decides}
+use Rattle.cardtables.specs.Stems.{total}
 use Rattle.testvectors.specs.Vectors.{bit, vectorVerdict, listVerdict}
 use Rattle.value.specs.Settings.{faulty}
 use Rattle.detect.specs.Detects.{changes, criticalAt}
@@ -15,6 +16,7 @@ use Rattle.plain.specs.Calls.{valuesTests}
 use Rattle.changes.specs.Calls.{changeTests, criticalTests}
 use Rattle.grade.specs.Calls.{gradeTests}
 use Rattle.cases.specs.Starred.{Starred}
+use Rattle.cases.specs.Leads.{Leads}
 
 -- one row, and those after it
 infixr 20 _also_
@@ -23,11 +25,21 @@ a also b = (a, b)
 
 pub starred-hold : Starred
 unfolding checkedWith answerTold replyTold replied written valuesTests changeTests criticalTests gradeTests vectorVerdict listVerdict
-    isInput observable size reads exits decides bit faulty chosen changes criticalAt mark marked criticalNode Forall
+    isInput observable size reads exits decides bit faulty chosen changes criticalAt total mark marked criticalNode Forall
 starred-hold =
     (refl, refl, refl, refl, refl, refl, refl, refl)
     also (refl, refl, refl, refl, refl, refl, refl, refl)
     also (refl, refl, refl)
     also (refl, refl, refl, refl, refl, refl, refl, refl)
-    also (refl, refl, refl, refl, refl, refl, refl)
-    also (refl, refl, refl, refl, refl, refl, refl)
+    also (refl, refl, refl, refl, refl, refl, refl, refl, refl)
+    also (refl, refl, refl, refl, refl, refl, refl, refl, refl)
+
+pub leads-hold : Leads
+unfolding checkedWith answerTold replyTold replied written valuesTests changeTests criticalTests gradeTests vectorVerdict listVerdict
+    isInput observable size reads exits decides bit faulty chosen changes criticalAt total mark marked criticalNode Forall
+leads-hold =
+    (refl, refl, refl, refl, refl, refl, refl, refl, refl)
+    also (refl, refl, refl, refl, refl, refl, refl, refl, refl)
+    also (refl, refl, refl, refl, refl, refl, refl, refl, refl)
+    also (refl, refl, refl, refl, refl, refl, refl, refl, refl)
+    also (refl, refl, refl, refl, refl, refl, refl, refl, refl)

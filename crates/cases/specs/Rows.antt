@@ -3,7 +3,7 @@
 use Prim.Native.Nat.{ℕ, _+_, _-_, _*_, _/_, _%_}
 use mathlib.Core.Path.{_≡_}
 use mathlib.Core.List.{List, [], _∷_, map}
-use mathlib.Core.Bool.{Bool, _&&_, _||_}
+use mathlib.Core.Bool.{Bool, not, _&&_, _||_}
 use lib.ListN.{length, replicate}
 use lib.Dec.{ltb, leb, eqb}
 use Rattle.lists.specs.Counting.{choose, some-below, count}
@@ -11,11 +11,12 @@ use Rattle.lists.specs.Tables.{at, tab, chosen, front}
 use Rattle.answers.specs.declared.Counts.{Counts}
 use Rattle.answers.specs.Answers.{Told, result, valuesOf}
 use Rattle.form.specs.Check.{checkTold}
-use Rattle.layout.specs.Layout.{first}
+use Rattle.layout.specs.Layout.{first, standsIn}
+use Rattle.cardtables.specs.Stems.{inGrade, total}
 use Rattle.testvectors.specs.Vectors.{bit, vectors, vector}
 use Rattle.plain.specs.Calls.{goodTold, goodBuffer}
-use Rattle.detect.specs.Detects.{standsIn, detects}
-use Rattle.detect.specs.Grading.{markBy, inGrade}
+use Rattle.detect.specs.Detects.{detects}
+use Rattle.detect.specs.Grading.{markBy}
 use Rattle.rules.specs.Rules.{listed, criticalNode, marksNode, marksGraph}
 use Rattle.changes.specs.Calls.{changeTold, changeBuffer, criticalTold, criticalBuffer}
 use Rattle.grade.specs.Calls.{gradeTold, marksBuffer, talliesBuffer}
@@ -30,12 +31,14 @@ pub record Case : Type 0 where
   pub caught : List ℕ
   pub critical : List ℕ
 
--- a card under a list of vectors: the marked count, and for each fault its mark and its tally
+-- a card under a list of vectors: the marked count, how many faults count in the grade and which do not, and for each fault its mark and its tally
 pub record Grading : Type 0 where
   pub card : List ℕ
   pub counts : Counts
   pub under : List ℕ
   pub marked : ℕ
+  pub total : ℕ
+  pub leftOut : List ℕ
   pub marks : List ℕ
   pub tallies : List ℕ
 
@@ -111,7 +114,8 @@ CaseHolds r =
     × (tab (λ j. flag (byRule4 ws c x j)) N ≡ r .critical)
     × (chosen (byRule5 ws c x) (c .faults) ≡ r .caught)
 
--- a grading holds by the check, by the call, and by rule 5 over its n vectors: the marked count, each fault's first vector and its tally
+-- a grading holds by the check, by the call, by which faults count, and by rule 5 over its n vectors: the marked count, each fault's first vector and
+-- its tally
 abbrev pub GradingHolds : Grading → Type 0
 GradingHolds r =
     let ws = r .card in
@@ -126,7 +130,9 @@ GradingHolds r =
     × (gradeTold ws xs b d ≡ result (r .marked ∷ []))
     × (marksBuffer ws xs b d ≡ front (r .marks) b)
     × (talliesBuffer ws xs b d ≡ front (r .tallies) d)
-    × (count (λ f. inGrade ws c xs f && some-below (marks f) n) F ≡ r .marked)
+    × (total ws c ≡ r .total)
+    × (chosen (λ f. not (inGrade ws c f)) F ≡ r .leftOut)
+    × (count (λ f. inGrade ws c f && some-below (marks f) n) F ≡ r .marked)
     × (tab (λ f. markBy (marks f) n) F ≡ r .marks)
     × (tab (λ f. count (marks f) n) F ≡ r .tallies)
 

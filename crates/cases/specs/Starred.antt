@@ -77,14 +77,26 @@ starred =
       critical = 0 ∷ 1 ∷ 1 ∷ [];
     })
     -- starred: the marks
-    ∷ grading (record { card = S; counts = countsS; under = []; marked = 0; marks = replicate 12 none; tallies = replicate 12 0 })
-    -- without a star: what cardgrade prints of S
+    ∷ grading
+    (record {
+      card = S;
+      counts = countsS;
+      under = [];
+      marked = 0;
+      total = 10;
+      leftOut = 8 ∷ 9 ∷ [];
+      marks = replicate 12 none;
+      tallies = replicate 12 0;
+    })
+    -- without a star: what cardgrade prints of S. Graph 1 has one reader, so that its faults 8 and 9 are left out (document 02).
     ∷ grading
     (record {
       card = S;
       counts = countsS;
       under = 0xA0000000 ∷ 0xA0000001 ∷ [];
-      marked = 8;
+      marked = 7;
+      total = 10;
+      leftOut = 8 ∷ 9 ∷ [];
       marks = by1 ∷ none ∷ by1 ∷ none ∷ by1 ∷ none ∷ by1 ∷ by0 ∷ by1 ∷ none ∷ by1 ∷ by0 ∷ [];
       tallies = 1 ∷ 0 ∷ 1 ∷ 0 ∷ 1 ∷ 0 ∷ 1 ∷ 1 ∷ 1 ∷ 0 ∷ 1 ∷ 1 ∷ [];
     })

@@ -9,10 +9,10 @@ use borrow.Author.Tests.{lt-ltb}
 use Rattle.layout.proofs.Firsts.{decides-bit}
 use Rattle.lists.specs.Counting.{choose}
 use Rattle.answers.specs.declared.Counts.{Counts}
-use Rattle.layout.specs.Layout.{first, size, reads, decision}
+use Rattle.layout.specs.Layout.{first, size, reads, decision, standsIn}
 use Rattle.layout.specs.Shape.{Shape}
-use Rattle.detect.specs.Detects.{goodValue, standsIn, criticalAt}
-use Rattle.detect.proofs.Places.{owner}
+use Rattle.detect.specs.Detects.{goodValue, criticalAt}
+use Rattle.layout.proofs.Stands.{owner}
 use Rattle.rules.specs.Rules.{critical, criticalNode}
 use Rattle.rules.proofs.Changes.{good-bit}
 use Rattle.rules.proofs.Told.{graph-told, node-told, critical-told}

@@ -2,20 +2,19 @@
 use Prim.Native.Nat.{ℕ, _+_, _-_, _<_}
 use mathlib.Core.Path.{_≡_, sym, ap, _∙_}
 use mathlib.Core.List.{List}
-use mathlib.Core.Bool.{true, false, _&&_}
+use mathlib.Core.Bool.{true, false}
 use mathlib.Mathlib.Data.Bool.Basic.{and-elim-left, and-elim-right}
 use native.Mathlib.Omega.{arith}
 use lib.ListN.{getD}
 use lib.Dec.{ltb}
 use borrow.Author.Tests.{ltb-true}
 use Rattle.answers.specs.declared.Counts.{Counts}
-use Rattle.layout.specs.Layout.{first, observable}
+use Rattle.layout.specs.Layout.{first, observable, standsIn}
 use Rattle.layout.specs.Shape.{Shape}
-use Rattle.layout.specs.Tables.{soleOf, Tabled}
+use Rattle.cardtables.specs.Tables.{soleOf, isOnly, Tabled}
 use Rattle.layout.proofs.Firsts.{node-below}
-use Rattle.layout.proofs.Readers.{sole-is}
-use Rattle.detect.specs.Detects.{standsIn}
-use Rattle.detect.proofs.Places.{owner}
+use Rattle.cardtables.proofs.Stems.{sole-is}
+use Rattle.layout.proofs.Stands.{owner}
 use Rattle.rules.specs.Rules.{critical}
 use Rattle.rules.proofs.Told.{critical-told}
 use Rattle.rules.proofs.Readers.{one-reader}
@@ -31,7 +30,7 @@ told-node {ws} {c} a t j h =
     rw e at (t .nodes g (j - first ws g) (omega arith) (o .0) (omega (arith, o .1, o .2)))
 
 -- a word of the tables that tells an only reader
-pub sole-both : (p : ℕ) → ltb 0 p && ltb p 4097 ≡ true → (0 < p) × (p < 4097)
+pub sole-both : (p : ℕ) → isOnly p ≡ true → (0 < p) × (p < 4097)
 sole-both p e = (ltb-true 0 p (and-elim-left (ltb 0 p) (ltb p 4097) e), ltb-true p 4097 (and-elim-right (ltb 0 p) (ltb p 4097) e))
 
 -- THE ONLY READER of graph g, whose number plus 1 the tables give as p, tells whether g is critical

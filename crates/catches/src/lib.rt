@@ -8,7 +8,8 @@ ghost use lib.Dec.{eqb};
 ghost use Rattle.lists.specs.Counting.{choose};
 ghost use Rattle.word32.specs.Fields.{exitOf};
 ghost use Rattle.layout.specs.Layout.{size};
-ghost use Rattle.layout.specs.Tables.{Ready, Tabled};
+ghost use Rattle.layout.specs.Tables.{Ready};
+ghost use Rattle.cardtables.specs.Tables.{Tabled};
 ghost use Rattle.testvectors.specs.Vectors.{width};
 ghost use Rattle.value.specs.Settings.{good};
 ghost use Rattle.value.specs.Values.{follow, value};
@@ -132,8 +133,8 @@ fn is_altering(
     if layout::is_observable(card, tables, g) {
         return true;
     }
-    let sole = layout::sole_reader(tables, g);
-    if layout::is_sole(sole) {
+    let sole = cardtables::sole_reader(tables, g);
+    if cardtables::is_sole(sole) {
         return lists::get(caught, sole as usize - 1) < 2;
     }
     critical::is_critical(card, c, tables, values, g, walk)

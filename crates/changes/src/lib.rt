@@ -129,7 +129,7 @@ pub fn work_out_critical(card: &[u32], c: Counts, vector: &[u32], nodes: &mut [u
     requires { ⌜ Shape (now card) c × (width (c .inputs) ≤ length (now vector)) × (c .nodes ≤ length (now nodes)) ⌝ }
     ensures { λ _. ⌜ now (nodes .exit) ≡ over (c .nodes) (λ j. choose (criticalAt (now (card .entry)) c (now (vector .entry)) j) 1 0) (now (nodes .entry)) ⌝ }
 {
-    let tables = layout::make_tables(card, c);
+    let tables = cardtables::make_tables(card, c);
     let mut values = layout::place_table();
     let mut walk = critical::walk_room();
     let mut caught = layout::place_table();

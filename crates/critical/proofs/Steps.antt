@@ -16,7 +16,7 @@ use Rattle.bitset.proofs.Bits.{member-same}
 use Rattle.answers.specs.declared.Counts.{Counts}
 use Rattle.layout.specs.Layout.{size, reads, observable}
 use Rattle.layout.specs.Shape.{Shape}
-use Rattle.layout.specs.Tables.{readersOf, Tabled}
+use Rattle.cardtables.specs.Tables.{readersOf, Tabled}
 use Rattle.layout.proofs.Firsts.{node-below}
 use Rattle.value.specs.Settings.{good}
 use Rattle.value.specs.Values.{walk, taken, value}

@@ -10,7 +10,7 @@ use Rattle.lists.specs.Counting.{choose, count}
 use Rattle.bitset.specs.Members.{member}
 use Rattle.answers.specs.declared.Counts.{Counts}
 use Rattle.layout.specs.Layout.{size, reads, observable}
-use Rattle.layout.specs.Tables.{readersOf}
+use Rattle.cardtables.specs.Tables.{readersOf}
 use Rattle.value.specs.Settings.{good}
 use Rattle.value.specs.Values.{value}
 use Rattle.rules.specs.Rules.{flipped, listed}

@@ -7,7 +7,8 @@ ghost use Prim.Native.Nat.{ℕ, _+_, _≤_, _<_};
 ghost use lib.ListN.{length, getD};
 ghost use Rattle.bitset.specs.Members.{member, Gains};
 ghost use Rattle.layout.specs.Layout.{observable};
-ghost use Rattle.layout.specs.Tables.{readersOf, Walkable, Tabled};
+ghost use Rattle.layout.specs.Tables.{Walkable};
+ghost use Rattle.cardtables.specs.Tables.{readersOf, Tabled};
 ghost use Rattle.value.specs.Settings.{good};
 ghost use Rattle.value.specs.Values.{value};
 ghost use Rattle.rules.specs.Rules.{critical};
@@ -36,7 +37,7 @@ fn note_due(c: Counts, tables: &[u32], h: usize, walk: &mut [u32])
     ensures { λ _. ⌜ Gains dueFrom (now (walk .entry)) (now (walk .exit))
         × ((j : ℕ) → h ≤ j → j < c .graphs → member (now (tables .entry)) (readersOf h) j ≤ member (now (walk .exit)) dueFrom j) ⌝ }
 {
-    let row = layout::readers_of(h);
+    let row = cardtables::readers_of(h);
     bitset::merge(tables, row, h / 32, (c.graphs + 31) / 32, walk, DUE);
 }
 

@@ -12,7 +12,8 @@ use Rattle.lists.proofs.Counting.{count-same, least-kept, least-new, found-coun
 use Rattle.lists.proofs.Tests.{and-false, and-true, differ, agree}
 use Rattle.answers.specs.declared.Counts.{Counts}
 use Rattle.testvectors.specs.Vectors.{vectors}
-use Rattle.detect.specs.Grading.{markBy, detectedBy, tally, mark, inGrade, marked}
+use Rattle.cardtables.specs.Stems.{inGrade}
+use Rattle.detect.specs.Grading.{markBy, detectedBy, tally, mark, marked}
 
 -- of a fault that the vectors t with p t catch
 module _ (p : ℕ → Bool) where
@@ -55,9 +56,9 @@ unfolding tally mark
 unmarked-exactly ws c xs f = (unmarked (detectedBy ws c xs f) (vectors (c .inputs) xs), none-caught (detectedBy ws c xs f) (vectors (c .inputs) xs))
 
 -- so the marked count is that of the faults that have a mark
-pub marked-marks : (ws : List ℕ) (c : Counts) (xs : List ℕ) → marked ws c xs ≡ count (λ f. inGrade ws c xs f && not (eqb (mark ws c xs f) 0xC0000000)) (c .faults)
+pub marked-marks : (ws : List ℕ) (c : Counts) (xs : List ℕ) → marked ws c xs ≡ count (λ f. inGrade ws c f && not (eqb (mark ws c xs f) 0xC0000000)) (c .faults)
 unfolding marked
-marked-marks ws c xs = count-same _ _ (c .faults) (λ f h. ap (λ (b : Bool). inGrade ws c xs f && b) (elim (decLt 0 (tally ws c xs f)) [
+marked-marks ws c xs = count-same _ _ (c .faults) (λ f h. ap (λ (b : Bool). inGrade ws c f && b) (elim (decLt 0 (tally ws c xs f)) [
   | yes l ↦ lt-ltb 0 (tally ws c xs f) l ∙ sym (differ (mark ws c xs f) 0xC0000000 (λ e. omega (arith, unmarked-exactly ws c xs f .1 e)))
   | no m ↦ le-ltb 0 (tally ws c xs f) (omega arith) ∙ sym (agree (mark ws c xs f) 0xC0000000 (unmarked-exactly ws c xs f .0 (omega arith)))
 ]))

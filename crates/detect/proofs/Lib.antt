@@ -1,4 +1,3 @@
 -- The laws that proofs of functions and of other laws cite, each stated once.
-pub mod Places
 pub mod Detects
 pub mod Grading

@@ -1,12 +1,12 @@
 -- What a vector catches, and which graphs and nodes are critical under it, by faults and values alone: document 01, 'Values and faults'. For an accepted
 -- card. Assumes nothing.
-use Prim.Native.Nat.{ℕ, zero, suc, _+_, _-_, _*_}
+use Prim.Native.Nat.{ℕ, _+_, _-_, _*_}
 use mathlib.Core.List.{List, [], _∷_}
 use mathlib.Core.Bool.{Bool, not, _&&_}
-use lib.Dec.{ltb, eqb}
-use Rattle.lists.specs.Counting.{choose, some-below}
+use lib.Dec.{eqb}
+use Rattle.lists.specs.Counting.{some-below}
 use Rattle.answers.specs.declared.Counts.{Counts}
-use Rattle.layout.specs.Layout.{first, observable, decision}
+use Rattle.layout.specs.Layout.{first, observable, decision, standsIn}
 use Rattle.value.specs.Settings.{good, faulty}
 use Rattle.value.specs.Values.{value}
 
@@ -14,11 +14,6 @@ use Rattle.value.specs.Values.{value}
 unfoldable pub observed : List ℕ → ℕ → (ℕ → ℕ) → (ℕ → ℕ) → Bool
 unfolding some-below
 observed ws n v w = some-below (λ g. observable ws g && not (eqb (w g) (v g))) n
-
--- the graph below g in which node j stands
-unfoldable pub standsIn : List ℕ → ℕ → ℕ → ℕ
-standsIn ws j zero = 0
-standsIn ws j (suc g) = choose (ltb j (first ws g)) (standsIn ws j g) g
 
 module _ (ws : List ℕ) (c : Counts) (x : List ℕ) where
   -- the values with no fault in, and with fault f in

@@ -1,10 +1,11 @@
 -- What a list of vectors catches: the first vector, the tally and the marked count of document 01's gradings. For an accepted card. Assumes nothing.
 use Prim.Native.Nat.{ℕ, _+_}
 use mathlib.Core.List.{List}
-use mathlib.Core.Bool.{Bool, true, _&&_}
+use mathlib.Core.Bool.{Bool, _&&_}
 use lib.Dec.{ltb}
 use Rattle.lists.specs.Counting.{choose, count, least}
 use Rattle.answers.specs.declared.Counts.{Counts}
+use Rattle.cardtables.specs.Stems.{inGrade}
 use Rattle.testvectors.specs.Vectors.{vectors, vector}
 use Rattle.detect.specs.Detects.{detects}
 
@@ -27,11 +28,7 @@ module _ (ws : List ℕ) (c : Counts) (xs : List ℕ) where
   unfolding detectedBy least vectors
   mark f = markBy (detectedBy f) (vectors (c .inputs) xs)
 
-  -- which faults count in the grade: all of them
-  unfoldable pub inGrade : ℕ → Bool
-  inGrade f = true
-
-  -- the marked count: how many of those that count some vector catches
+  -- the marked count: how many of the faults that count in the grade some vector catches
   unfoldable pub marked : ℕ
   unfolding inGrade tally
-  marked = count (λ f. inGrade f && ltb 0 (tally f)) (c .faults)
+  marked = count (λ f. inGrade ws c f && ltb 0 (tally f)) (c .faults)

@@ -1,7 +1,9 @@
--- THE TWO COLUMNS that a call leaves: where it is done, a fault's tally is 0 exactly when its mark is C0000000. Assumes nothing.
-use Prim.Native.Nat.{ℕ, _<_}
+-- THE TWO COLUMNS that a call leaves, where it is done: a fault's tally is 0 exactly when its mark is C0000000, and the faults of a lead have the words of
+-- those of its one reader. Assumes nothing.
+use Prim.Native.Nat.{ℕ, _+_, _*_, _<_}
 use mathlib.Core.Path.{_≡_, refl, sym, _∙_}
 use mathlib.Core.List.{List}
+use mathlib.Core.Bool.{false}
 use native.Mathlib.Omega.{arith}
 use lib.ListN.{getD}
 use Rattle.lists.proofs.Tables.{over-at}
@@ -12,6 +14,10 @@ use Rattle.answers.specs.declared.Answer.the-variants.{Accepted}
 use Rattle.answers.specs.declared.Reply.the-variants.{Done}
 use Rattle.answers.specs.Calls.{replied, written, doneBy}
 use Rattle.form.specs.Check.{checked}
+use Rattle.form.proofs.Checked.{check-accepts}
+use Rattle.cardtables.specs.Stems.{readBy, hasStem}
+use Rattle.cardtables.proofs.Stems.{read-below}
+use Rattle.rules.proofs.Leads.{lead-mark, lead-tally}
 use Rattle.detect.specs.Grading.{mark, tally, marked}
 use Rattle.detect.proofs.Grading.{unmarked-exactly}
 use Rattle.grade.specs.Calls.{allTests, gradeReply, marksBuffer, talliesBuffer}
@@ -39,3 +45,13 @@ module _ (ws xs b d : List ℕ) {n : ℕ} (done : gradeReply ws xs b d ≡ Done 
   columns-agree f h =
       let u = unmarked-exactly ws c xs f in
       (λ z. mark-left f h ∙ u .0 (sym (tally-left f h) ∙ z), λ z. tally-left f h ∙ u .1 (sym (mark-left f h) ∙ z))
+
+  -- graph g has no stem, and node j reads it: the graph stuck at v and the node stuck at its v-exit have equal words
+  pub leads-agree : (g j v : ℕ) → hasStem ws c g ≡ false → j < c .nodes → readBy ws c j ≡ g → v < 2
+      → (getD (marksBuffer ws xs b d) (2 * (c .nodes + g) + v) 0 ≡ getD (marksBuffer ws xs b d) (2 * j + v) 0)
+      × (getD (talliesBuffer ws xs b d) (2 * (c .nodes + g) + v) 0 ≡ getD (talliesBuffer ws xs b d) (2 * j + v) 0)
+  leads-agree g j v s l r h =
+      let a = check-accepts ws 0 c e .shape in
+      let m : 2 * (c .nodes + g) + v < c .faults = omega (arith, a .all-faults, r, read-below a j l) in
+      let n : 2 * j + v < c .faults = omega (arith, a .all-faults) in
+      (mark-left _ m ∙ lead-mark a s l r v h xs ∙ sym (mark-left _ n), tally-left _ m ∙ lead-tally a s l r v h xs ∙ sym (tally-left _ n))

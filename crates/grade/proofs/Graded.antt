@@ -2,7 +2,7 @@
 use Prim.Native.Nat.{ℕ, zero, suc, _+_, _-_, _*_, _<_, _≤_}
 use mathlib.Core.Path.{_≡_, refl, sym, ap, ap₂, _∙_}
 use mathlib.Core.List.{List}
-use mathlib.Core.Bool.{Bool}
+use mathlib.Core.Bool.{Bool, _&&_}
 use native.Mathlib.Omega.{arith}
 use native.Mathlib.Nat.{add-zero, zero-add, add-mul, mul-le-mul}
 use lib.ListN.{length, getD, take, drop}
@@ -12,11 +12,12 @@ use Rattle.lists.specs.Tables.{over, always}
 use Rattle.lists.proofs.Counting.{count-same, count-shifted}
 use Rattle.lists.proofs.Tables.{over-at, over-rest, over-is, length-over}
 use Rattle.answers.specs.declared.Counts.{Counts}
+use Rattle.cardtables.specs.Stems.{inGrade}
 use Rattle.testvectors.specs.Vectors.{width, vectors}
 use Rattle.testvectors.specs.Parts.{Part}
 use Rattle.testvectors.proofs.Parts.{width-few, part-ends, part-of}
 use Rattle.detect.specs.Detects.{detects}
-use Rattle.detect.specs.Grading.{markBy, detectedBy, tally, mark, inGrade, marked}
+use Rattle.detect.specs.Grading.{markBy, detectedBy, tally, mark, marked}
 use Rattle.detect.proofs.Grading.{mark-next}
 use Rattle.running.specs.Running.{found}
 use Rattle.running.specs.declared.Running.{Running}
@@ -108,9 +109,9 @@ module _ (ws : List ℕ) (c : Counts) (vs : List ℕ) where
     tallies-last l e = over-is (tally ws c vs) us ts (c .faults) l e (λ f h. s .tally f h) (λ f h. s .rest f h .1)
 
     -- and the marked count
-    pub marked-last : found ts (c .faults) ≡ marked ws c vs
-    unfolding found marked inGrade tally
-    marked-last = count-same _ _ (c .faults) (λ f h. ap (λ (r : ℕ). ltb 0 r) (s .tally f h))
+    pub marked-last : found (inGrade ws c) ts (c .faults) ≡ marked ws c vs
+    unfolding found marked tally
+    marked-last = count-same _ _ (c .faults) (λ f h. ap (λ (r : ℕ). inGrade ws c f && ltb 0 r) (s .tally f h))
 
 -- before the first vector no fault is marked, and every tally is 0
 pub graded-none : {ws : List ℕ} {c : Counts} {vs ys ts : List ℕ} (xs us : List ℕ) → ys ≡ over (c .faults) (always 0xC0000000) xs → ts ≡ over (c .faults) (always 0) us

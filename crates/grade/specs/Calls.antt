@@ -1,4 +1,4 @@
--- The grading: document 01, 'Calls', with both columns in one call (document 02). By faults and values alone. Assumes nothing.
+-- The grading: document 01, 'Calls', with both columns in one call (document 02). By faults, values, and which faults count. Assumes nothing.
 use Prim.Native.Nat.{ℕ}
 use mathlib.Core.List.{List, [], _∷_}
 use lib.ListN.{length}

@@ -6,7 +6,8 @@ ghost use Rattle.lists.specs.Tables.{over};
 ghost use Rattle.answers.specs.Answers.{replyTold};
 ghost use Rattle.answers.specs.Tests.{firstBroken};
 ghost use Rattle.detect.specs.Grading.{mark, tally, marked};
-ghost use Rattle.layout.specs.Tables.{Tabled};
+ghost use Rattle.cardtables.specs.Stems.{inGrade};
+ghost use Rattle.cardtables.specs.Tables.{Tabled};
 ghost use Rattle.running.specs.Running.{Counted};
 ghost use Rattle.grade.specs.Graded.{Listed, Graded};
 ghost use Rattle.grade.specs.Calls.{gradeTests, gradeTold, marksBuffer, talliesBuffer};
@@ -15,7 +16,7 @@ use answers::Counts;
 use answers::Reply;
 use answers::Rule;
 use answers::Verdict;
-use layout::Tables;
+use cardtables::Tables;
 use running::Running;
 
 // Takes in a whole list, block by block, from a result that has taken in none.
@@ -28,7 +29,8 @@ fn take_list(
     marks: &mut [u32],
     tallies: &mut [u32],
 ) -> usize
-    requires { ⌜ Listed (now card) c (now list) × Tabled (now card) c (now tables) × (start .vector ≡ 0) × Counted (c .faults) (now marks) (now tallies) start
+    requires { ⌜ Listed (now card) c (now list) × Tabled (now card) c (now tables) × (start .vector ≡ 0)
+        × Counted (inGrade (now card) c) (c .faults) (now marks) (now tallies) start
         × Graded (now card) c (now list) 0 (now marks) (now tallies) (now marks) (now tallies) ⌝ }
     ensures { λ r. ⌜ (r ≡ marked (now (card .entry)) c (now (list .entry)))
         × (now (marks .exit) ≡ over (c .faults) (mark (now (card .entry)) c (now (list .entry))) (now (marks .entry)))
@@ -46,22 +48,22 @@ fn take_list(
     r.marked
 }
 
-// Grades an accepted card by a list of vectors: the words of the faults, and how many are marked.
-fn grade_list(
+// Grades an accepted card, whose tables are made, by a list of vectors: the words of the faults, and how many of those that count are marked.
+pub fn grade_list(
     card: &[u32],
     c: Counts,
+    tables: &Tables,
     list: &[u32],
     marks: &mut [u32],
     tallies: &mut [u32],
 ) -> usize
-    requires { ⌜ Listed (now card) c (now list) × (c .faults ≤ length (now marks)) × (c .faults ≤ length (now tallies)) ⌝ }
+    requires { ⌜ Listed (now card) c (now list) × Tabled (now card) c (now tables) × (c .faults ≤ length (now marks)) × (c .faults ≤ length (now tallies)) ⌝ }
     ensures { λ r. ⌜ (r ≡ marked (now (card .entry)) c (now (list .entry)))
         × (now (marks .exit) ≡ over (c .faults) (mark (now (card .entry)) c (now (list .entry))) (now (marks .entry)))
         × (now (tallies .exit) ≡ over (c .faults) (tally (now (card .entry)) c (now (list .entry))) (now (tallies .entry))) ⌝ }
 {
-    let tables = layout::make_tables(card, c);
     let start = block::begin(c, marks, tallies);
-    take_list(start, card, c, &tables, list, marks, tallies)
+    take_list(start, card, c, tables, list, marks, tallies)
 }
 
 // The tests of a grading after the form of its list, for buffers of so many words: room for the marks, and then for the tallies.
@@ -78,7 +80,7 @@ pub fn test_grade(c: Counts, marks: usize, tallies: usize) -> Verdict
 }
 
 // The grading: for each fault its mark, C0000000 if no vector catches it, else E0000000 plus the number of the earliest that does; its tally, the number of
-// vectors that catch it; and the marked count.
+// vectors that catch it; and the marked count, of the faults that count in the grade.
 pub fn grade(card: &[u32], vectors: &[u32], marks: &mut [u32], tallies: &mut [u32]) -> Reply
     ensures { λ r. ⌜ (replyTold r ≡ gradeTold (now (card .entry)) (now (vectors .entry)) (now (marks .entry)) (now (tallies .entry)))
         × (now (marks .exit) ≡ marksBuffer (now (card .entry)) (now (vectors .entry)) (now (marks .entry)) (now (tallies .entry)))
@@ -90,7 +92,8 @@ pub fn grade(card: &[u32], vectors: &[u32], marks: &mut [u32], tallies: &mut [u3
             if let Verdict::Broken(rule, position) = test_grade(c, marks.len(), tallies.len()) {
                 return Reply::Refused(rule, position);
             }
-            Reply::Done(grade_list(card, c, vectors, marks, tallies))
+            let tables = cardtables::make_tables(card, c);
+            Reply::Done(grade_list(card, c, &tables, vectors, marks, tallies))
         }
     }
 }

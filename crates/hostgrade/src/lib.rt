@@ -27,7 +27,7 @@ fn write_grading(ws: &[u32], c: Counts, list: &[u8], marks: &mut [u8], tallies: 
 }
 
 // The grading: for each fault its mark, C0000000 if no vector catches it, else E0000000 plus the number of the earliest that does; its tally, the number of
-// vectors that catch it; and the marked count.
+// vectors that catch it; and the marked count, of the faults that count in the grade.
 pub fn grade(card: &[u8], vectors: &[u8], marks: &mut [u8], tallies: &mut [u8]) -> u64
     ensures { λ r. ⌜ (r ≡ gradeAnswer (now (card .entry)) (now (vectors .entry)) (now (marks .entry)) (now (tallies .entry)))
         × (now (marks .exit) ≡ markBytes (now (card .entry)) (now (vectors .entry)) (now (marks .entry)) (now (tallies .entry)))

@@ -5,11 +5,12 @@ ghost use lib.ListN.{length};
 ghost use Rattle.lists.specs.Tables.{over};
 ghost use Rattle.word32.specs.Bytes.{wordsOf};
 ghost use Rattle.detect.specs.Grading.{mark, tally, marked};
-ghost use Rattle.layout.specs.Tables.{Tabled};
+ghost use Rattle.cardtables.specs.Stems.{inGrade};
+ghost use Rattle.cardtables.specs.Tables.{Tabled};
 ghost use Rattle.running.specs.Running.{Counted};
 ghost use Rattle.grade.specs.Graded.{Listed, Graded};
 use answers::Counts;
-use layout::Tables;
+use cardtables::Tables;
 use running::Running;
 
 // Room for the words of any block.
@@ -30,7 +31,8 @@ fn take_list(
     tallies: &mut [u32],
 ) -> usize
     requires { ⌜ Listed (now card) c (wordsOf (now list)) × Tabled (now card) c (now tables) × (start .vector ≡ 0)
-        × Counted (c .faults) (now marks) (now tallies) start × Graded (now card) c (wordsOf (now list)) 0 (now marks) (now tallies) (now marks) (now tallies) ⌝ }
+        × Counted (inGrade (now card) c) (c .faults) (now marks) (now tallies) start
+        × Graded (now card) c (wordsOf (now list)) 0 (now marks) (now tallies) (now marks) (now tallies) ⌝ }
     ensures { λ r. ⌜ (r ≡ marked (now (card .entry)) c (wordsOf (now (list .entry))))
         × (now (marks .exit) ≡ over (c .faults) (mark (now (card .entry)) c (wordsOf (now (list .entry)))) (now (marks .entry)))
         × (now (tallies .exit) ≡ over (c .faults) (tally (now (card .entry)) c (wordsOf (now (list .entry)))) (now (tallies .entry))) ⌝ }
@@ -49,7 +51,7 @@ fn take_list(
     r.marked
 }
 
-// Grades an accepted card by a list of vectors in bytes: the words of the faults, and how many are marked.
+// Grades an accepted card by a list of vectors in bytes: the words of the faults, and how many of those that count are marked.
 pub fn grade_list(
     card: &[u32],
     c: Counts,
@@ -62,7 +64,7 @@ pub fn grade_list(
         × (now (marks .exit) ≡ over (c .faults) (mark (now (card .entry)) c (wordsOf (now (list .entry)))) (now (marks .entry)))
         × (now (tallies .exit) ≡ over (c .faults) (tally (now (card .entry)) c (wordsOf (now (list .entry)))) (now (tallies .entry))) ⌝ }
 {
-    let tables = layout::make_tables(card, c);
+    let tables = cardtables::make_tables(card, c);
     let start = block::begin(c, marks, tallies);
     take_list(start, card, c, &tables, list, marks, tallies)
 }

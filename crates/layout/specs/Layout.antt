@@ -3,7 +3,8 @@ use Prim.Native.Nat.{ℕ, zero, suc, _+_, _*_}
 use mathlib.Core.List.{List}
 use mathlib.Core.Bool.{Bool}
 use lib.ListN.{getD}
-use lib.Dec.{eqb}
+use lib.Dec.{ltb, eqb}
+use Rattle.lists.specs.Counting.{choose}
 use Rattle.word32.specs.Fields.{kind, nodeCount, readGraph, exitOf}
 
 -- the decision of a node whose read is the word w, where the graph that it reads has the value r
@@ -51,3 +52,9 @@ module _ (ws : List ℕ) where
 
   abbrev pub decision : (ℕ → ℕ) → ℕ → ℕ → ℕ
   decision v g k = decides g k (v (reads g k))
+
+  -- the graph below g in which node j stands
+  unfoldable pub standsIn : ℕ → ℕ → ℕ
+  unfolding first
+  standsIn j zero = 0
+  standsIn j (suc g) = choose (ltb j (first g)) (standsIn j g) g

@@ -1,4 +1,3 @@
 pub mod Layout
 pub mod Shape
 pub mod Tables
-pub mod Readers

@@ -1,5 +1,5 @@
 -- Counts and least numbers. Assumes nothing.
-use Prim.Native.Nat.{ℕ, zero, suc, _+_, _-_, _<_, _≤_}
+use Prim.Native.Nat.{ℕ, zero, suc, _+_, _-_, _*_, _/_, _<_, _≤_}
 use mathlib.Core.Path.{_≡_, refl, sym, ap, ap₂, _∙_}
 use mathlib.Core.Bool.{Bool, true, false}
 use native.Mathlib.Omega.{arith}
@@ -31,6 +31,16 @@ unfolding count
 count-shifted p q a b zero h = rw (add-zero a, add-zero b)
 count-shifted p q a b (suc n) h =
     rw (add-suc a n, add-suc b n, h n (omega arith)) (omega (arith, count-shifted p q a b n (λ i l. h i (omega arith))))
+
+-- where each number stands for two, twice as many pass
+pub count-pairs : (p : ℕ → Bool) (n : ℕ) → count (λ f. p (f / 2)) (2 * n) ≡ 2 * count p n
+unfolding count
+count-pairs p zero = refl
+count-pairs p (suc n) =
+    let e : 2 * suc n ≡ suc (suc (2 * n)) = omega arith in
+    let a : 2 * n / 2 ≡ n = omega arith in
+    let b : suc (2 * n) / 2 ≡ n = omega arith in
+    rw (e, a, b, count-pairs p n) (omega arith)
 
 -- a number below n that passes, with k others below it
 pub record Reached (p : ℕ → Bool) (n k : ℕ) : Type 0 where
@@ -80,6 +90,10 @@ module _ (p : ℕ → Bool) where
     | yes l ↦ absurd (omega (arith, count-rises n m l d))
     | no i ↦ elim (decLt m n) [ yes l ↦ absurd (omega (arith, count-rises m n l e)) | no j ↦ omega arith ]
   ]
+
+  -- and where one in all is counted, no two pass
+  pub count-alone : (n i j : ℕ) → count p n ≡ 1 → i < n → j < n → p i ≡ true → p j ≡ true → i ≡ j
+  count-alone n i j e h l a b = count-apart i j a b (omega (arith, count-rises i n h a, count-rises j n l b))
 
   -- and each lower count is that below a number that passes
   pub count-reached : (n k : ℕ) → k < count p n → Reached p n k

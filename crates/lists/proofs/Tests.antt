@@ -71,6 +71,11 @@ pub choose-bit : (b : Bool) (x y : ℕ) → x < 2 → y < 2 → choose b x y < 2
 choose-bit true x y p q = p
 choose-bit false x y p q = q
 
+-- a word that is 1 where a test holds, else 0, is 1 exactly there
+pub choose-back : (b : Bool) → eqb (choose b 1 0) 1 ≡ b
+choose-back true = refl
+choose-back false = refl
+
 pub some-same : (p q : ℕ → Bool) (n : ℕ) → ((k : ℕ) → k < n → p k ≡ q k) → some-below p n ≡ some-below q n
 unfolding some-below
 some-same p q zero h = refl

@@ -16,20 +16,19 @@ use Rattle.answers.specs.declared.Rule.{Rule}
 use Rattle.answers.specs.declared.Counts.{Counts}
 use Rattle.answers.specs.declared.Verdict.{Verdict}
 use Rattle.answers.specs.declared.Verdict.the-variants.{Sound, Broken}
-use Rattle.answers.specs.declared.Answer.the-variants as answer
-use Rattle.answers.specs.declared.Reply.{Reply}
-use Rattle.answers.specs.declared.Reply.the-variants as reply
-use Rattle.answers.specs.Answers.{numberOf, replyTold}
-use Rattle.answers.proofs.Answers.{same-reply}
+use Rattle.answers.specs.declared.Answer.{Answer}
+use Rattle.answers.specs.declared.Answer.the-variants.{Accepted, Refused}
+use Rattle.answers.specs.Answers.{numberOf}
 use Rattle.form.specs.Check.{checked}
-use Rattle.answers.specs.Tests.{andThen}
-use Rattle.form.proofs.Checked.{check-accepts}
-use Rattle.answers.specs.Calls.{replied, written, doneBy}
+use Rattle.answers.specs.Tests.{onward}
+use Rattle.answers.specs.Calls.{opened}
+use Rattle.answers.proofs.Calls.{opened-accepted}
+use Rattle.cardtables.specs.Stems.{total}
 use Rattle.testvectors.specs.Vectors.{listVerdict}
 use Rattle.detect.specs.Grading.{mark, tally, marked}
-use Rattle.grade.specs.Calls.{gradeTests, allTests, gradeReply, gradeTold, marksBuffer, talliesBuffer}
+use Rattle.grade.specs.Graded.{Listed}
 use Rattle.report.specs.Text.{shortLine, longLine, refusedLine, faultLine, faultLines, gradingText}
-use Rattle.report.specs.Report.{unlessBroken, gradedText, wordCount, cardBytes, vectorBytes, textOf, bytesWanted}
+use Rattle.report.specs.Report.{unlessBroken, ifAccepted, gradedText, wordCount, cardBytes, vectorBytes, textOf, bytesWanted}
 
 -- THE TEXT by its cases
 module _ (b : List ℕ) where
@@ -110,57 +109,25 @@ module _ (b : List ℕ) where
   pub text-front : textOf (take (bytesWanted (take 4 b)) b) ≡ textOf b
   text-front = front-text (bytesWanted (take 4 b)) (omega (arith, wanted-front))
 
--- the card's refusal
+-- the refusal of the card or of the list, and the grading
 module _ (ws xs : List ℕ) where
-  pub graded-refused : {r : Rule} {p : ℕ} → checked ws ≡ answer.Refused r p → gradedText ws xs ≡ refusedLine (numberOf r) p
+  pub graded-refused : {r : Rule} {p : ℕ} → opened (checked ws) (λ c. listVerdict (c .inputs) xs) ≡ Refused r p → gradedText ws xs ≡ refusedLine (numberOf r) p
   unfolding gradedText
-  graded-refused e = rw e
+  graded-refused {r} {p} e = of (checked ws) (λ c. gradingText c (mark ws c xs) (tally ws c xs) (marked ws c xs) (total ws c)) e
+    where
+      list : (v : Verdict) (c : Counts) (text : List ℕ) → onward v (Accepted c) ≡ Refused r p → unlessBroken v text ≡ refusedLine (numberOf r) p
+      list Sound c text z = let f : _≡_ {A = ℕ} 0 1 = cc in absurd (omega arith)
+      list (Broken r′ p′) c text z = let f : r′ ≡ r = cc in let g : p′ ≡ p = cc in rw (f, g)
 
-  -- the grading's reply goes by the list's verdict alone where its buffers have room
-  module _ {c : Counts} (e : checked ws ≡ answer.Accepted c) (b d : List ℕ) (room : c .faults ≤ length b) (more : c .faults ≤ length d) where
-    tests-are : allTests xs b d c ≡ listVerdict (c .inputs) xs
-    unfolding gradeTests
-    tests-are = rw (le-ltb _ _ room, le-ltb _ _ more) (then-nothing (listVerdict (c .inputs) xs))
-      where
-        then-nothing : (v : Verdict) → andThen v Sound ≡ v
-        then-nothing Sound = refl
-        then-nothing (Broken r p) = refl
+      of : (a : Answer) (text : Counts → List ℕ) → opened a (λ c. listVerdict (c .inputs) xs) ≡ Refused r p
+          → ifAccepted a (λ c. unlessBroken (listVerdict (c .inputs) xs) (text c)) ≡ refusedLine (numberOf r) p
+      of (Accepted c) text z = list (listVerdict (c .inputs) xs) c (text c) z
+      of (Refused r′ p′) text z = let f : r′ ≡ r = cc in let g : p′ ≡ p = cc in rw (f, g)
 
-    reply-is : (a : Reply) → replyTold a ≡ gradeTold ws xs b d → doneBy (listVerdict (c .inputs) xs) (marked ws c xs) ≡ a
-    unfolding replied
-    reply-is a t = rw (same-reply a (gradeReply ws xs b d) t, e, tests-are)
-
-    pub list-refused : {a : Reply} {r : Rule} {p : ℕ} → replyTold a ≡ gradeTold ws xs b d → a ≡ reply.Refused r p
-        → gradedText ws xs ≡ refusedLine (numberOf r) p
-    unfolding gradedText
-    list-refused {a} {r} {p} t q = rw e (go (listVerdict (c .inputs) xs) (reply-is a t ∙ q))
-      where
-        go : (v : Verdict) → doneBy v (marked ws c xs) ≡ reply.Refused r p
-            → unlessBroken v (gradingText c (mark ws c xs) (tally ws c xs) (marked ws c xs)) ≡ refusedLine (numberOf r) p
-        go Sound z = let f : _≡_ {A = ℕ} 0 1 = cc in absurd (omega arith)
-        go (Broken r′ p′) z = let f : r′ ≡ r = cc in let g : p′ ≡ p = cc in rw (f, g)
-
-    list-sound : {a : Reply} {n : ℕ} → replyTold a ≡ gradeTold ws xs b d → a ≡ reply.Done n
-        → (listVerdict (c .inputs) xs ≡ Sound) × (n ≡ marked ws c xs)
-    list-sound {a} {n} t q = go (listVerdict (c .inputs) xs) (reply-is a t ∙ q)
-      where
-        go : (v : Verdict) → doneBy v (marked ws c xs) ≡ reply.Done n → (v ≡ Sound) × (n ≡ marked ws c xs)
-        go Sound z = (refl, cc)
-        go (Broken r p) z = let f : _≡_ {A = ℕ} 0 1 = cc in absurd (omega arith)
-
-    module _ (v : listVerdict (c .inputs) xs ≡ Sound) where
-      pub marks-are : marksBuffer ws xs b d ≡ over (c .faults) (mark ws c xs) b
-      unfolding written
-      marks-are = rw (e, tests-are, v)
-
-      pub tallies-are : talliesBuffer ws xs b d ≡ over (c .faults) (tally ws c xs) d
-      unfolding written
-      tallies-are = rw (e, tests-are, v)
-
-  pub graded-done : {c : Counts} → checked ws ≡ answer.Accepted c → listVerdict (c .inputs) xs ≡ Sound
-      → gradedText ws xs ≡ gradingText c (mark ws c xs) (tally ws c xs) (marked ws c xs)
+  pub graded-done : {c : Counts} → opened (checked ws) (λ c. listVerdict (c .inputs) xs) ≡ Accepted c
+      → gradedText ws xs ≡ gradingText c (mark ws c xs) (tally ws c xs) (marked ws c xs) (total ws c)
   unfolding gradedText
-  graded-done e v = rw (e, v)
+  graded-done e = let (a, s) = opened-accepted (checked ws) (λ c. listVerdict (c .inputs) xs) e in rw (a, s)
 
 -- marks and tallies that agree make one text
 lines-same : (m m′ t t′ : ℕ → ℕ) (n : ℕ) → ((f : ℕ) → f < n → m f ≡ m′ f)
@@ -170,10 +137,10 @@ lines-same m m′ t t′ zero p q = refl
 lines-same m m′ t t′ (suc n) p q =
     rw (lines-same m m′ t t′ n (λ f l. p f (omega arith)) (λ f l. q f (omega arith)), p n (omega arith), q n (omega arith))
 
-pub grading-same : (c : Counts) (m m′ t t′ : ℕ → ℕ) (n : ℕ) → ((f : ℕ) → f < c .faults → m f ≡ m′ f) → ((f : ℕ) → f < c .faults → t f ≡ t′ f)
-    → gradingText c m t n ≡ gradingText c m′ t′ n
+pub grading-same : (c : Counts) (m m′ t t′ : ℕ → ℕ) (n k : ℕ) → ((f : ℕ) → f < c .faults → m f ≡ m′ f) → ((f : ℕ) → f < c .faults → t f ≡ t′ f)
+    → gradingText c m t n k ≡ gradingText c m′ t′ n k
 unfolding gradingText
-grading-same c m m′ t t′ n p q = rw (lines-same m m′ t t′ (c .faults) p q)
+grading-same c m m′ t t′ n k p q = rw (lines-same m m′ t t′ (c .faults) p q)
 
 -- one fault more
 pub lines-none : (m t : ℕ → ℕ) → faultLines m t 0 ≡ []
@@ -184,19 +151,17 @@ pub lines-next : (m t : ℕ → ℕ) (f : ℕ) → faultLines m t f ++ faultLine
 unfolding faultLines
 lines-next m t f = rw add-one
 
--- the whole of an accepted grading, from what the grading replies and leaves
-pub few-faults : (ws : List ℕ) {c : Counts} → checked ws ≡ answer.Accepted c → c .faults ≤ 10240
-few-faults ws {c} e = let s = check-accepts ws 0 c e .shape in omega (arith, s .all-faults, s .few-nodes, s .few-graphs)
+-- the text of a grading, from what it leaves in the buffers
+pub few-faults : {ws xs : List ℕ} {c : Counts} → Listed ws c xs → c .faults ≤ 10240
+few-faults y = let s = y .shape in omega (arith, s .all-faults, s .few-nodes, s .few-graphs)
 
-pub graded-told : (ws xs : List ℕ) {c : Counts} → checked ws ≡ answer.Accepted c → (b d ms ts : List ℕ) {a : Reply} (n : ℕ)
-    → c .faults ≤ length b → c .faults ≤ length d → replyTold a ≡ gradeTold ws xs b d → a ≡ reply.Done n
-    → ms ≡ marksBuffer ws xs b d → ts ≡ talliesBuffer ws xs b d → gradedText ws xs ≡ gradingText c (λ f. getD ms f 0) (λ f. getD ts f 0) n
-graded-told ws xs {c} e b d ms ts n p q told r m t =
-    let (v, z) = list-sound ws xs e b d p q told r in
-    graded-done ws xs e v
-    ∙ rw (← z) (grading-same c (mark ws c xs) (λ f. getD ms f 0) (tally ws c xs) (λ f. getD ts f 0) n
-    (λ f l. sym (rw (m ∙ marks-are ws xs e b d p q v) (over-at (mark ws c xs) b (c .faults) f l)))
-    (λ f l. sym (rw (t ∙ tallies-are ws xs e b d p q v) (over-at (tally ws c xs) d (c .faults) f l))))
+pub grading-told : (ws xs : List ℕ) (c : Counts) (b d : List ℕ) {ms ts : List ℕ} (n k : ℕ) → ms ≡ over (c .faults) (mark ws c xs) b → ts ≡ over (c .faults) (tally ws c xs) d
+    → n ≡ marked ws c xs → k ≡ total ws c
+    → gradingText c (λ f. getD ms f 0) (λ f. getD ts f 0) n k ≡ gradingText c (mark ws c xs) (tally ws c xs) (marked ws c xs) (total ws c)
+grading-told ws xs c b d {ms} {ts} n k m t e z =
+    rw (e, z) (grading-same c (λ f. getD ms f 0) (mark ws c xs) (λ f. getD ts f 0) (tally ws c xs) _ _
+    (λ f l. rw m (over-at (mark ws c xs) b (c .faults) f l))
+    (λ f l. rw t (over-at (tally ws c xs) d (c .faults) f l)))
 
 -- the words of some bytes, as a buffer's front
 pub words-front : (b d out : List ℕ) (n : ℕ) → n ≡ length b / 4 → out ≡ over (length b / 4) (wordAt b) d → take n out ≡ wordsOf b

@@ -6,6 +6,7 @@ use Rattle.word32.specs.Bytes.{wordAt, byteOf}
 use Rattle.lists.specs.Tables.{grow, tab}
 use Rattle.form.specs.Check.{checkedWith}
 use Rattle.layout.specs.Layout.{observable, isInput, size, exits, reads, decides}
+use Rattle.cardtables.specs.Stems.{total}
 use Rattle.testvectors.specs.Vectors.{bit, listVerdict}
 use Rattle.value.specs.Settings.{faulty}
 use Rattle.value.specs.Values.{value}
@@ -29,9 +30,9 @@ lines =
     ++ told 48 49 49 ++ told 49 45 48 ++ told 50 49 49 ++ told 51 45 48 ++ told 52 49 49 ++ told 53 45 48
     ++ told 54 49 49 ++ told 55 48 49 ++ told 56 49 49 ++ told 57 45 48
     ++ (49 ∷ told 48 49 49) ++ (49 ∷ told 49 48 49)
-    ++ (103 ∷ 114 ∷ 97 ∷ 100 ∷ 101 ∷ 32 ∷ 56 ∷ 32 ∷ 49 ∷ 50 ∷ 10 ∷ [])
+    ++ (103 ∷ 114 ∷ 97 ∷ 100 ∷ 101 ∷ 32 ∷ 55 ∷ 32 ∷ 49 ∷ 48 ∷ 10 ∷ [])
 
 pub S-text : textOf input ≡ lines
 unfolding textOf gradedText gradingText cardLine faultLine faultLines line decimal digits wordAt byteOf grow checkedWith
-    listVerdict mark tally marked observable isInput size exits reads decides bit faulty value
+    listVerdict mark tally marked total observable isInput size exits reads decides bit faulty value
 S-text = refl

@@ -14,6 +14,7 @@ use Rattle.answers.specs.declared.Answer.{Answer}
 use Rattle.answers.specs.declared.Answer.the-variants.{Accepted, Refused}
 use Rattle.answers.specs.Answers.{numberOf}
 use Rattle.form.specs.Check.{checked}
+use Rattle.cardtables.specs.Stems.{total}
 use Rattle.testvectors.specs.Vectors.{listVerdict}
 use Rattle.detect.specs.Grading.{mark, tally, marked}
 use Rattle.report.specs.Text.{either, shortLine, longLine, refusedLine, gradingText}
@@ -30,7 +31,8 @@ ifAccepted (Refused r p) text = refusedLine (numberOf r) p
 -- the card ws with the vector words xs: the card's refusal, the list's, or the grading
 unfoldable pub gradedText : List ℕ → List ℕ → List ℕ
 gradedText ws xs =
-    ifAccepted (checked ws) (λ c. unlessBroken (listVerdict (c .inputs) xs) (gradingText c (mark ws c xs) (tally ws c xs) (marked ws c xs)))
+    ifAccepted (checked ws) (λ c.
+    unlessBroken (listVerdict (c .inputs) xs) (gradingText c (mark ws c xs) (tally ws c xs) (marked ws c xs) (total ws c)))
 
 -- the bytes b in their three parts: the word count, so many words, and all that follows
 abbrev pub wordCount : List ℕ → ℕ

@@ -62,7 +62,7 @@ unfoldable pub line : List ℕ → ℕ → ℕ → List ℕ
 line word x y = word ++ field x ++ field y ++ end
 
 abbrev pub gradeLine : ℕ → ℕ → List ℕ
-gradeLine marked all = line grade marked all
+gradeLine marked total = line grade marked total
 
 abbrev pub refusedLine : ℕ → ℕ → List ℕ
 refusedLine number position = line refused number position
@@ -78,6 +78,6 @@ unfoldable pub faultLines : (ℕ → ℕ) → (ℕ → ℕ) → ℕ → List ℕ
 faultLines mark tally zero = []
 faultLines mark tally (suc f) = faultLines mark tally f ++ faultLine f (mark f) (tally f)
 
--- THE TEXT OF A GRADING: the card, each fault, the grade
-unfoldable pub gradingText : Counts → (ℕ → ℕ) → (ℕ → ℕ) → ℕ → List ℕ
-gradingText c mark tally marked = cardLine c ++ faultLines mark tally (c .faults) ++ gradeLine marked (c .faults)
+-- THE TEXT OF A GRADING: the card, each fault, the grade. The last line alone leaves out the faults that do not count in the grade.
+unfoldable pub gradingText : Counts → (ℕ → ℕ) → (ℕ → ℕ) → ℕ → ℕ → List ℕ
+gradingText c mark tally marked total = cardLine c ++ faultLines mark tally (c .faults) ++ gradeLine marked total

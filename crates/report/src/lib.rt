@@ -5,14 +5,14 @@ ghost use Prim.Native.Nat.{_+_, _*_, _-_, _/_, _<_, _≤_};
 ghost use lib.ListN.{length, getD};
 ghost use Rattle.lists.specs.Tables.{front};
 ghost use Rattle.word32.specs.Bytes.{wordsOf};
-ghost use Rattle.form.specs.Check.{checked};
-ghost use Rattle.answers.specs.declared.Answer.the-variants.{Accepted};
+ghost use Rattle.cardtables.specs.Stems.{total};
+ghost use Rattle.detect.specs.Grading.{mark, tally, marked};
+ghost use Rattle.grade.specs.Graded.{Listed};
 ghost use Rattle.report.specs.Text.{decimal, field, markField, countFields, cardLine, faultLine, faultLines, line, gradingText, refusedLine};
 ghost use Rattle.report.specs.Report.{wordCount, gradedText, textOf, bytesWanted};
 ghost use Rattle.report.specs.Puts.{Puts};
 use answers::Answer;
 use answers::Counts;
-use answers::Reply;
 
 // Bytes go to a position of the buffer; the result is the position after them.
 fn put(out: &mut [u8], at: usize, bytes: &[u8]) -> usize
@@ -145,26 +145,34 @@ fn put_refused(out: &mut [u8], number: u32, position: usize) -> usize
 }
 
 // The whole text of a grading. 286,880 bytes hold any: 100 for the card's line, 28 for each of 10,240 faults, 60 for the grade's.
-fn put_grading(out: &mut [u8], c: Counts, marks: &[u32], tallies: &[u32], marked: usize) -> usize
+fn put_grading(
+    out: &mut [u8],
+    c: Counts,
+    marks: &[u32],
+    tallies: &[u32],
+    marked: usize,
+    total: usize,
+) -> usize
     requires { ⌜ (286880 ≤ length (now out)) × (c .faults ≤ 10240) × (c .faults ≤ length (now marks)) × (c .faults ≤ length (now tallies)) ⌝ }
-    ensures { λ r. ⌜ Puts (now (out .entry)) 0 (gradingText c (λ f. getD (now (marks .entry)) f 0) (λ f. getD (now (tallies .entry)) f 0) marked) r (now (out .exit)) ⌝ }
+    ensures { λ r. ⌜ Puts (now (out .entry)) 0 (gradingText c (λ f. getD (now (marks .entry)) f 0) (λ f. getD (now (tallies .entry)) f 0) marked total) r (now (out .exit)) ⌝ }
 {
     let after_card = put_card(out, c);
     let after_faults = put_faults(out, after_card, c.faults, marks, tallies);
-    put_line(out, after_faults, b"grade", marked, c.faults)
+    put_line(out, after_faults, b"grade", marked, total)
 }
 
-// The text for an accepted card and vector words.
+// The text for an accepted card and a list of vectors.
 fn report_accepted(card: &[u32], c: Counts, vectors: &[u32], out: &mut [u8]) -> usize
-    requires { ⌜ (checked (now card) ≡ Accepted c) × (286880 ≤ length (now out)) ⌝ }
-    ensures { λ r. ⌜ Puts (now (out .entry)) 0 (gradedText (now (card .entry)) (now (vectors .entry))) r (now (out .exit)) ⌝ }
+    requires { ⌜ Listed (now card) c (now vectors) × (286880 ≤ length (now out)) ⌝ }
+    ensures { λ r. ⌜ Puts (now (out .entry)) 0 (gradingText c (mark (now (card .entry)) c (now (vectors .entry))) (tally (now (card .entry)) c (now (vectors .entry)))
+        (marked (now (card .entry)) c (now (vectors .entry))) (total (now (card .entry)) c)) r (now (out .exit)) ⌝ }
 {
     let mut marks = layout::fault_table();
     let mut tallies = layout::fault_table();
-    match grade::grade(card, vectors, &mut marks, &mut tallies) {
-        Reply::Refused(rule, position) => put_refused(out, answers::rule_number(rule), position),
-        Reply::Done(marked) => put_grading(out, c, &marks, &tallies, marked),
-    }
+    let tables = cardtables::make_tables(card, c);
+    let marked = grade::grade_list(card, c, &tables, vectors, &mut marks, &mut tallies);
+    let total = cardtables::total(c, &tables);
+    put_grading(out, c, &marks, &tallies, marked, total)
 }
 
 // The text for a card and vector words.
@@ -172,7 +180,7 @@ fn report_words(card: &[u32], vectors: &[u32], out: &mut [u8]) -> usize
     requires { ⌜ 286880 ≤ length (now out) ⌝ }
     ensures { λ r. ⌜ Puts (now (out .entry)) 0 (gradedText (now (card .entry)) (now (vectors .entry))) r (now (out .exit)) ⌝ }
 {
-    match cardcheck::check(card) {
+    match opening::open_list(card, vectors) {
         Answer::Refused(rule, position) => put_refused(out, answers::rule_number(rule), position),
         Answer::Accepted(c) => report_accepted(card, c, vectors, out),
     }

@@ -5,4 +5,5 @@ pub mod Faults
 pub mod Told
 pub mod Stopped
 pub mod Readers
+pub mod Leads
 pub mod Examples

@@ -13,7 +13,7 @@ use Rattle.lists.proofs.Net.{Solves}
 use Rattle.answers.specs.declared.Counts.{Counts}
 use Rattle.layout.specs.Layout.{first, isInput, observable, size, reads, exits, decides, decision}
 use Rattle.layout.specs.Shape.{Shape}
-use Rattle.layout.specs.Readers.{OneReader}
+use Rattle.cardtables.specs.Readers.{OneReader}
 use Rattle.layout.proofs.Firsts.{one-place, node-below, decides-other}
 use Rattle.testvectors.specs.Vectors.{bit}
 use Rattle.value.specs.Settings.{Setting, good, faulty}
@@ -75,7 +75,7 @@ module _ {ws : List ℕ} {c : Counts} (a : Shape ws c) (x : List ℕ) {g h k : �
     ]
 
     -- and one fault is caught exactly where the other is
-    paired : detects ws c x f ≡ detects ws c x f′
+    pub paired : detects ws c x f ≡ detects ws c x f′
     unfolding detects observed
     paired = some-same _ _ (c .graphs) (λ r l. elim (ℕ-discrete r g) [
       | yes p ↦ rw (p, hidden)

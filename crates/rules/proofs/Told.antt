@@ -9,7 +9,7 @@ use Rattle.answers.specs.declared.Counts.{Counts}
 use Rattle.layout.specs.Layout.{first, size, decision}
 use Rattle.layout.specs.Shape.{Shape}
 use Rattle.detect.specs.Detects.{goodValue, detects, opposite, changes, decisionOf, otherExit, criticalAt}
-use Rattle.detect.proofs.Places.{stands-in}
+use Rattle.layout.proofs.Stands.{stands-in}
 use Rattle.rules.specs.Rules.{listed, criticalNode, marksNode, marksGraph}
 use Rattle.rules.proofs.Faults.{graph-fault, node-fault, opposite-values, other-exit-caught}
 

@@ -1,8 +1,8 @@
--- The marks and tallies of faults, and how many have a tally, with no card in it. Assumes nothing.
+-- The marks and tallies of faults, and how many of those that count have a tally, with no card in it. Assumes nothing.
 use Prim.Native.Nat.{ℕ, zero, suc, _+_, _*_, _/_, _%_, _<_, _≤_}
 use mathlib.Core.Path.{_≡_, refl, sym, ap, _∙_}
 use mathlib.Core.List.{List}
-use mathlib.Core.Bool.{Bool, true, false, not, _&&_}
+use mathlib.Core.Bool.{Bool, true, false, _&&_}
 use mathlib.Mathlib.Data.Bool.Basic.{and-elim-left}
 use native.Mathlib.Omega.{arith}
 use native.Mathlib.Decide.{ℕ-discrete, decLt}
@@ -13,9 +13,9 @@ use lib.Dec.{ltb, eqb}
 use borrow.Author.Tests.{eq-eqb, ne-eqb, lt-ltb, le-ltb, ltb-true}
 use Rattle.lists.specs.Counting.{choose, count}
 use Rattle.lists.proofs.Counting.{count-same, count-le}
-use Rattle.lists.proofs.Tests.{choose-bit}
+use Rattle.lists.proofs.Tests.{and-false, and-true, choose-bit}
 use Rattle.running.specs.declared.Running.{Running}
-use Rattle.running.specs.Running.{nextMark, nextTally, putIf, found, Put, Folded, Small, Counted}
+use Rattle.running.specs.Running.{nextMark, nextTally, putIf, inGradeBy, found, Put, Folded, Small, Counted}
 
 -- a store, if there is one
 module _ (xs : List ℕ) (f w : ℕ) where
@@ -28,70 +28,64 @@ module _ (xs : List ℕ) (f w : ℕ) where
   put-here false l = refl
 
 -- one place: no fault is caught there
-pub put-none : {t p d m : ℕ} {xs us : List ℕ} → 2 ≤ d → Put t p d xs us m xs us m
-put-none {t} {p} {d} h = let e = le-ltb d 2 h in record { number = rw (e, add-zero); marks = rw e; tallies = rw e }
+pub put-none : {t p d m : ℕ} {b : Bool} {xs us : List ℕ} → 2 ≤ d → Put t p d b xs us m xs us m
+put-none {t} {p} {d} h = let e = le-ltb d 2 h in record { number = rw (e, and-false, add-zero); marks = rw e; tallies = rw e }
 
 -- or one, whose tally is n
-module _ {t p d m n : ℕ} {xs us vs : List ℕ} (h : d < 2) (q : n ≡ getD us (2 * p + d) 0) (z : vs ≡ set us (2 * p + d) (n + 1)) where
-  pub put-again : 0 < n → Put t p d xs us m xs vs m
+module _ {t p d m n : ℕ} {b : Bool} {xs us vs : List ℕ} (h : d < 2) (q : n ≡ getD us (2 * p + d) 0) (z : vs ≡ set us (2 * p + d) (n + 1)) where
+  pub put-again : 0 < n → Put t p d b xs us m xs vs m
   put-again l =
       let e = ne-eqb n 0 (λ i. omega arith) in
-      record { number = rw (lt-ltb d 2 h, ← q, e, add-zero); marks = rw (lt-ltb d 2 h, ← q, e); tallies = rw (lt-ltb d 2 h, ← q) z }
+      record { number = rw (lt-ltb d 2 h, ← q, e, and-false, add-zero); marks = rw (lt-ltb d 2 h, ← q, e); tallies = rw (lt-ltb d 2 h, ← q) z }
 
-  pub put-first : {ys : List ℕ} → n ≡ 0 → ys ≡ set xs (2 * p + d) (0xE0000000 + t) → Put t p d xs us m ys vs (m + 1)
-  put-first i s =
+  pub put-first : {ys : List ℕ} {r : ℕ} → n ≡ 0 → ys ≡ set xs (2 * p + d) (0xE0000000 + t) → r ≡ m + choose b 1 0 → Put t p d b xs us m ys vs r
+  put-first i s k =
       let e = eq-eqb n 0 i in
-      record { number = rw (lt-ltb d 2 h, ← q, e); marks = rw (lt-ltb d 2 h, ← q, e) s; tallies = rw (lt-ltb d 2 h, ← q) z }
+      record { number = rw (lt-ltb d 2 h, ← q, e, and-true) k; marks = rw (lt-ltb d 2 h, ← q, e) s; tallies = rw (lt-ltb d 2 h, ← q) z }
 
--- one number that passes now, where b tells that it did not before
-count-one : (p q : ℕ → Bool) (b : Bool) (n k : ℕ) → k < n → ((i : ℕ) → (i ≡ k → ⊥) → q i ≡ p i) → p k ≡ not b → q k ≡ true → count q n ≡ count p n + choose b 1 0
+-- the counts of two tests that differ at one number k alone, which adds d
+count-one : (p q : ℕ → Bool) (n k d : ℕ) → k < n → ((i : ℕ) → (i ≡ k → ⊥) → q i ≡ p i) → choose (q k) 1 0 ≡ choose (p k) 1 0 + d → count q n ≡ count p n + d
 unfolding count
-count-one p q b zero k l s e z = absurd (omega arith)
-count-one p q b (suc n) k l s e z = elim (ℕ-discrete k n) [
-  | yes i ↦
-      let e′ : p n ≡ not b = rw i at e in
-      let z′ : q n ≡ true = rw i at z in
-      let r = count-same q p n (λ j m. s j (λ o. omega arith)) in
-      rw (e′, z′, r) (last b)
-  | no d ↦
-      let r = count-one p q b n k (omega arith) s e z in
-      let r′ = s n (λ o. d (sym o)) in
-      rw (r, r′) (omega arith)
+count-one p q zero k d l s e = absurd (omega arith)
+count-one p q (suc n) k d l s e = elim (ℕ-discrete k n) [
+  | yes i ↦ omega (arith, count-same q p n (λ j m. s j (λ o. omega arith)), rw i at e)
+  | no o ↦ rw (s n (λ j. o (sym j))) (omega (arith, count-one p q n k d (omega arith) s e))
 ]
-  where
-    last : (b : Bool) → count p n + 1 ≡ count p n + choose (not b) 1 0 + choose b 1 0
-    last true = omega arith
-    last false = omega arith
 
--- how many have a tally then
-some-tally : (n : ℕ) → ltb 0 n ≡ not (eqb n 0)
-some-tally zero = refl
-some-tally (suc n) = rw (lt-ltb 0 (suc n) (omega arith), ne-eqb (suc n) 0 (λ e. omega arith))
+-- a catch: a fault that counts is one more with a tally where it had none
+one-catch : (b : Bool) (n : ℕ) → choose (b && ltb 0 (n + 1)) 1 0 ≡ choose (b && ltb 0 n) 1 0 + choose (b && eqb n 0) 1 0
+one-catch true zero = refl
+one-catch true (suc n) = rw (lt-ltb 0 (suc n + 1) (omega arith), lt-ltb 0 (suc n) (omega arith), ne-eqb (suc n) 0 (λ e. omega arith))
+one-catch false n = refl
 
-found-put : (us : List ℕ) (n p d m : ℕ) → p < n → 2 * n ≤ length us → m ≡ found us (2 * n)
-    → m + choose (ltb d 2 && eqb (getD us (2 * p + d) 0) 0) 1 0 ≡ found (putIf (ltb d 2) us (2 * p + d) (getD us (2 * p + d) 0 + 1)) (2 * n)
+-- how many that count have a tally then
+found-put : (k : ℕ → Bool) (us : List ℕ) (n p d m : ℕ) (b : Bool) → (d < 2 → b ≡ k (2 * p + d)) → p < n → 2 * n ≤ length us → m ≡ found k us (2 * n)
+    → m + choose (b && (ltb d 2 && eqb (getD us (2 * p + d) 0) 0)) 1 0 ≡ found k (putIf (ltb d 2) us (2 * p + d) (getD us (2 * p + d) 0 + 1)) (2 * n)
 unfolding found
-found-put us n p d m h l e = elim (decLt d 2) [
-  | yes b ↦
+found-put k us n p d m b j h l e = elim (decLt d 2) [
+  | yes g ↦
       let f = 2 * p + d in
       let w = getD us f 0 + 1 in
-      rw (lt-ltb d 2 b, e) (sym (count-one (λ i. ltb 0 (getD us i 0)) (λ i. ltb 0 (getD (set us f w) i 0)) (eqb (getD us f 0) 0) (2 * n) f (omega arith)
-      (λ i o. ap (λ (r : ℕ). ltb 0 r) (getD-set-other us f i w 0 o))
-      (some-tally (getD us f 0))
-      (ap (λ (r : ℕ). ltb 0 r) (getD-set-same us f w 0 (omega arith)) ∙ lt-ltb 0 w (omega arith))))
-  | no b ↦ rw (le-ltb d 2 (omega arith), add-zero) e
+      rw (lt-ltb d 2 g, e, j g) (sym (count-one (λ i. k i && ltb 0 (getD us i 0)) (λ i. k i && ltb 0 (getD (set us f w) i 0)) (2 * n) f _ (omega arith)
+      (λ i o. ap (λ (r : ℕ). k i && ltb 0 r) (getD-set-other us f i w 0 o))
+      (rw (getD-set-same us f w 0 (omega arith)) (one-catch (k f) (getD us f 0)))))
+  | no g ↦ rw (le-ltb d 2 (omega arith), and-false, add-zero) e
 ]
 
 module _ {t : ℕ} where
-  pub found-more : {xs us ys vs : List ℕ} {n p d m r : ℕ} → Put t p d xs us m ys vs r → p < n → 2 * n ≤ length us → m ≡ found us (2 * n) → r ≡ found vs (2 * n)
-  found-more {xs} {us} {ys} {vs} {n} {p} {d} {m} {r} s h l e = s .number ∙ rw (s .tallies) (found-put us n p d m h l e)
+  -- where the words ks of the places tell which count
+  pub found-more : (ks : List ℕ) {xs us ys vs : List ℕ} {n p d m r : ℕ} → Put t p d (eqb (getD ks p 0) 1) xs us m ys vs r → p < n → 2 * n ≤ length us
+      → m ≡ found (inGradeBy ks) us (2 * n) → r ≡ found (inGradeBy ks) vs (2 * n)
+  found-more ks {xs} {us} {ys} {vs} {n} {p} {d} {m} {r} s h l e =
+      let own : d < 2 → eqb (getD ks p 0) 1 ≡ inGradeBy ks (2 * p + d) = λ b. let o : (2 * p + d) / 2 ≡ p = omega arith in rw o in
+      s .number ∙ rw (s .tallies) (found-put (inGradeBy ks) us n p d m (eqb (getD ks p 0) 1) own h l e)
 
   -- and the words of its two faults
   pub folded-none : {cs xs us : List ℕ} → Folded t 0 cs xs us xs us
   folded-none = record { mark = λ p d h l. absurd (omega arith); tally = λ p d h l. absurd (omega arith); rest = λ f h. (refl, refl) }
 
-  module _ {cs xs us ys vs zs ws : List ℕ} {p d m r : ℕ} (s : Folded t p cs xs us ys vs) (e : d ≡ getD cs p 0) (l : 2 * p + 1 < length ys) (k : 2 * p + 1 < length vs)
-      (w : Put t p d ys vs m zs ws r) where
+  module _ {cs xs us ys vs zs ws : List ℕ} {p d m r : ℕ} {c : Bool} (s : Folded t p cs xs us ys vs) (e : d ≡ getD cs p 0) (l : 2 * p + 1 < length ys)
+      (k : 2 * p + 1 < length vs) (w : Put t p d c ys vs m zs ws r) where
     abbrev f : ℕ
     f = 2 * p + d
 
@@ -138,15 +132,25 @@ module _ {t : ℕ} where
   pub small-rest : {n p : ℕ} {cs xs us ys vs : List ℕ} → Small t 0 n us → Folded t p cs xs us ys vs → 2 * p + 2 ≤ n → Small t (2 * p) (2 * p + 2) vs
   small-rest s w h = record { word = λ f b l. rw (w .rest f b .1) (s .word f (omega arith) (omega arith)) }
 
--- the faults with a tally are no more than the faults
-pub found-few : (us : List ℕ) (n : ℕ) → found us n ≤ n
+-- the faults that a result counts are no more than the faults
+pub found-few : (k : ℕ → Bool) (us : List ℕ) (n : ℕ) → found k us n ≤ n
 unfolding found
-found-few us n = count-le (λ f. ltb 0 (getD us f 0)) n
+found-few k us n = count-le (λ f. k f && ltb 0 (getD us f 0)) n
+
+-- a result that counts by one test counts by another that tells the same of those faults
+pub counted-as : {j k : ℕ → Bool} {n : ℕ} {xs us : List ℕ} {r : Running} → ((f : ℕ) → f < n → j f ≡ k f) → Counted j n xs us r → Counted k n xs us r
+unfolding found
+counted-as {j} {k} {n} {xs} {us} {r} h s = record {
+  marks-long = s .marks-long;
+  tallies-long = s .tallies-long;
+  number = s .number ∙ count-same _ _ n (λ f l. ap (λ (b : Bool). b && ltb 0 (getD us f 0)) (h f l));
+  small = s .small;
+}
 
 -- one vector taken in: the next result counts the tallies after it
-pub counted-next : {n m : ℕ} {r : Running} {cs xs us ys vs : List ℕ} → Counted (2 * n) xs us r → Folded (r .vector) n cs xs us ys vs → length ys ≡ length xs → length vs ≡ length us
-    → m ≡ found vs (2 * n) → Counted (2 * n) ys vs (record { vector = r .vector + 1; marked = m })
-counted-next {n} {m} {r} {cs} {xs} {us} {ys} {vs} s w l k e = record {
+pub counted-next : {k : ℕ → Bool} {n m : ℕ} {r : Running} {cs xs us ys vs : List ℕ} → Counted k (2 * n) xs us r → Folded (r .vector) n cs xs us ys vs
+    → length ys ≡ length xs → length vs ≡ length us → m ≡ found k vs (2 * n) → Counted k (2 * n) ys vs (record { vector = r .vector + 1; marked = m })
+counted-next {k} {n} {m} {r} {cs} {xs} {us} {ys} {vs} s w l g e = record {
   marks-long = omega (arith, s .marks-long);
   tallies-long = omega (arith, s .tallies-long);
   number = e;

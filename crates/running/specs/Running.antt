@@ -1,5 +1,5 @@
 -- The running result of a grading and its two buffers, marks and tallies, with no card in it. No contract of a public call cites these. Assumes nothing.
-use Prim.Native.Nat.{ℕ, _+_, _*_, _<_, _≤_}
+use Prim.Native.Nat.{ℕ, _+_, _*_, _/_, _<_, _≤_}
 use mathlib.Core.Path.{_≡_}
 use mathlib.Core.List.{List}
 use mathlib.Core.Bool.{Bool, true, false, _&&_}
@@ -20,14 +20,19 @@ abbrev pub putIf : Bool → List ℕ → ℕ → ℕ → List ℕ
 putIf true xs f w = set xs f w
 putIf false xs f w = xs
 
--- how many of the first n faults have a tally over 0
-unfoldable pub found : List ℕ → ℕ → ℕ
-unfolding count
-found us n = count (λ f. ltb 0 (getD us f 0)) n
+-- which faults count in the grade, by the words ks of the places: the two of each place whose word is 1
+abbrev pub inGradeBy : List ℕ → ℕ → Bool
+inGradeBy ks f = eqb (getD ks (f / 2) 0) 1
 
--- place p taken in, where its word is d: marks xs become ys, tallies us become vs, and r is the count of faults with a tally, where it was m
-pub record Put (t p d : ℕ) (xs us : List ℕ) (m : ℕ) (ys vs : List ℕ) (r : ℕ) : Type 0 where
-  pub number : r ≡ m + choose (ltb d 2 && eqb (getD us (2 * p + d) 0) 0) 1 0
+-- how many of the first n faults count, by k, and have a tally over 0
+unfoldable pub found : (ℕ → Bool) → List ℕ → ℕ → ℕ
+unfolding count
+found k us n = count (λ f. k f && ltb 0 (getD us f 0)) n
+
+-- place p taken in, where its word is d and b tells whether its faults count: marks xs become ys, tallies us become vs, and r is the marked count, where
+-- it was m
+pub record Put (t p d : ℕ) (b : Bool) (xs us : List ℕ) (m : ℕ) (ys vs : List ℕ) (r : ℕ) : Type 0 where
+  pub number : r ≡ m + choose (b && (ltb d 2 && eqb (getD us (2 * p + d) 0) 0)) 1 0
   pub marks : ys ≡ putIf (ltb d 2 && eqb (getD us (2 * p + d) 0) 0) xs (2 * p + d) (0xE0000000 + t)
   pub tallies : vs ≡ putIf (ltb d 2) us (2 * p + d) (getD us (2 * p + d) 0 + 1)
 
@@ -41,9 +46,10 @@ pub record Folded (t n : ℕ) (cs xs us ys vs : List ℕ) : Type 0 where
 pub record Small (t low high : ℕ) (us : List ℕ) : Type 0 where
   pub word : (f : ℕ) → low ≤ f → f < high → getD us f 0 ≤ t
 
--- the running result counts the first n faults of two buffers: how many have a tally, and no tally is over the number of vectors taken in
-pub record Counted (n : ℕ) (xs us : List ℕ) (r : Running) : Type 0 where
+-- the running result counts the first n faults of two buffers: how many of those that count, by k, have a tally; and no tally is over the number of
+-- vectors taken in
+pub record Counted (k : ℕ → Bool) (n : ℕ) (xs us : List ℕ) (r : Running) : Type 0 where
   pub marks-long : n ≤ length xs
   pub tallies-long : n ≤ length us
-  pub number : r .marked ≡ found us n
+  pub number : r .marked ≡ found k us n
   pub small : Small (r .vector) 0 n us

@@ -1,22 +1,25 @@
 // The running result of a grading: it takes in what one vector catches at a time. No card is in it: the marks and the tallies of the faults lie in two
-// lent buffers, two words of each for each place.
+// lent buffers, two words of each for each place, and a word for each place tells whether its two faults count in the grade.
 ghost use mathlib.Core.Path.{_≡_};
 ghost use Prim.Native.Nat.{_+_, _*_, _≤_, _<_};
-ghost use lib.ListN.{length};
-ghost use Rattle.running.specs.Running.{Put, found, Folded, Small, Counted};
+ghost use lib.ListN.{length, getD};
+ghost use lib.Dec.{eqb};
+ghost use Rattle.running.specs.Running.{Put, inGradeBy, found, Folded, Small, Counted};
 
-// Place p, where the fault stuck at d is caught, or none if d is 2: its tally, its mark at the first catch, and the count of faults with a tally.
+// Place p, where the fault stuck at d is caught, or none if d is 2: its tally, its mark at the first catch, and the marked count, in which the fault
+// counts if the place's word in `graded` is 1. The word is looked at no earlier.
 fn take_place(
     t: u32,
     p: usize,
     d: u32,
+    graded: &[u32],
     marked: usize,
     marks: &mut [u32],
     tallies: &mut [u32],
 ) -> usize
-    requires { ⌜ (t < 65535) × (marked < 65536) × (p < 5120) × (2 * p + 1 < length (now marks)) × (2 * p + 1 < length (now tallies))
+    requires { ⌜ (t < 65535) × (marked < 65536) × (p < 5120) × (p < length (now graded)) × (2 * p + 1 < length (now marks)) × (2 * p + 1 < length (now tallies))
         × Small t (2 * p) (2 * p + 2) (now tallies) ⌝ }
-    ensures { λ r. ⌜ Put t p d (now (marks .entry)) (now (tallies .entry)) marked (now (marks .exit)) (now (tallies .exit)) r ⌝ }
+    ensures { λ r. ⌜ Put t p d (eqb (getD (now (graded .entry)) p 0) 1) (now (marks .entry)) (now (tallies .entry)) marked (now (marks .exit)) (now (tallies .exit)) r ⌝ }
 {
     if 2 <= d {
         return marked;
@@ -28,33 +31,37 @@ fn take_place(
         return marked;
     }
     lists::put(marks, f, 0xE000_0000 + t);
+    if lists::get(graded, p) != 1 {
+        return marked;
+    }
     marked + 1
 }
 
-// All n places.
+// All n places; the word of each in `graded` is 1 where its faults count.
 fn take_places(
     t: u32,
     n: usize,
     caught: &[u32],
+    graded: &[u32],
     marked: usize,
     marks: &mut [u32],
     tallies: &mut [u32],
 ) -> usize
-    requires { ⌜ (t < 65535) × (n ≤ 5120) × (n ≤ length (now caught)) × (2 * n ≤ length (now marks)) × (2 * n ≤ length (now tallies))
-        × (marked ≡ found (now tallies) (2 * n)) × Small t 0 (2 * n) (now tallies) ⌝ }
-    ensures { λ r. ⌜ (r ≡ found (now (tallies .exit)) (2 * n))
+    requires { ⌜ (t < 65535) × (n ≤ 5120) × (n ≤ length (now caught)) × (n ≤ length (now graded)) × (2 * n ≤ length (now marks))
+        × (2 * n ≤ length (now tallies)) × (marked ≡ found (inGradeBy (now graded)) (now tallies) (2 * n)) × Small t 0 (2 * n) (now tallies) ⌝ }
+    ensures { λ r. ⌜ (r ≡ found (inGradeBy (now (graded .entry))) (now (tallies .exit)) (2 * n))
         × Folded t n (now (caught .entry)) (now (marks .entry)) (now (tallies .entry)) (now (marks .exit)) (now (tallies .exit)) ⌝ }
 {
     let mut m = marked;
     let mut p = 0;
     while p < n {
-        m = take_place(t, p, lists::get(caught, p), m, marks, tallies);
+        m = take_place(t, p, lists::get(caught, p), graded, m, marks, tallies);
         p += 1;
     }
     m
 }
 
-// The running result of a grading: the number of the vector that is due, and how many faults are marked.
+// The running result of a grading: the number of the vector that is due, and how many of the faults that count are marked.
 pub struct Running {
     pub vector: u32,
     pub marked: usize,
@@ -76,16 +83,18 @@ impl Running {
         self,
         n: usize,
         caught: &[u32],
+        graded: &[u32],
         marks: &mut [u32],
         tallies: &mut [u32],
     ) -> Running
-        requires { ⌜ (self .vector < 65535) × (n ≤ 5120) × (n ≤ length (now caught)) × Counted (2 * n) (now marks) (now tallies) self ⌝ }
+        requires { ⌜ (self .vector < 65535) × (n ≤ 5120) × (n ≤ length (now caught)) × (n ≤ length (now graded))
+            × Counted (inGradeBy (now graded)) (2 * n) (now marks) (now tallies) self ⌝ }
         ensures { λ r. ⌜ (r .vector ≡ self .vector + 1)
             × Folded (self .vector) n (now (caught .entry)) (now (marks .entry)) (now (tallies .entry)) (now (marks .exit)) (now (tallies .exit))
-            × Counted (2 * n) (now (marks .exit)) (now (tallies .exit)) r ⌝ }
+            × Counted (inGradeBy (now (graded .entry))) (2 * n) (now (marks .exit)) (now (tallies .exit)) r ⌝ }
     {
         let t = self.vector;
-        let marked = take_places(t, n, caught, self.marked, marks, tallies);
+        let marked = take_places(t, n, caught, graded, self.marked, marks, tallies);
         Running {
             vector: t + 1,
             marked: marked,

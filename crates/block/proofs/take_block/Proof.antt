@@ -1,25 +1,28 @@
 -- `block::take_block` meets its contract. Assumes nothing.
 -- The invariant: the vectors of the block below i are taken in, and the result counts both buffers.
 use Prim.Native.Nat.{_+_, _-_, _≤_}
+use Rattle.block.proofs.InGrade.{words-long, words-are}
 use Rattle.block.proofs.Updated.{updated, all-places, updated-none, updated-more}
 use Rattle.block.proofs.take_block.Statement.{statement}
 use Rattle.block.proofs.take_block.Tie as tie
 use Rattle.block.specs.Block.{UpdatedAll}
+use Rattle.cardtables.specs.Stems.{inGrade}
 use Rattle.running.specs.Running.{Counted}
+use Rattle.running.proofs.Fold.{counted-as}
 use Rattle.testvectors.proofs.Laws.{vector-inside, vector-width}
 use Rattle.testvectors.specs.Vectors.{vectors}
 use borrow.Author.Needs.{needs}
 use lib.ListN.{length}
-use mathlib.Core.Path.{_≡_, refl}
+use mathlib.Core.Path.{_≡_, refl, sym}
 use native.Mathlib.Omega.{arith}
 
 abbrev Inv-loop : tie.InvT-loop
-Inv-loop card c tables vectors marks₀ tallies₀ values₀ walk₀ caught₀ n all q₀ i₀ marks tallies values walk caught q i =
+Inv-loop card c tables vectors marks₀ tallies₀ values₀ walk₀ caught₀ n all graded q₀ i₀ marks tallies values walk caught q i =
     (i ≤ n) × (length marks ≡ length marks₀) × (length tallies ≡ length tallies₀) × (5120 ≡ length values) × (2080 ≡ length walk) × (5120 ≡ length caught)
-    × (q .vector ≡ q₀ .vector + i) × Counted (c .faults) marks tallies q × UpdatedAll card c vectors (q₀ .vector) i marks₀ tallies₀ marks tallies
+    × (q .vector ≡ q₀ .vector + i) × Counted (inGrade card c) (c .faults) marks tallies q × UpdatedAll card c vectors (q₀ .vector) i marks₀ tallies₀ marks tallies
 
 abbrev μ-loop : tie.MeasureT-loop
-μ-loop card c tables vectors marks₀ tallies₀ values₀ walk₀ caught₀ n all q₀ i₀ marks tallies values walk caught q i =
+μ-loop card c tables vectors marks₀ tallies₀ values₀ walk₀ caught₀ n all graded q₀ i₀ marks tallies values walk caught q i =
     n - i
 
 place-table-requires : tie.Need-place-table-requires Inv-loop μ-loop
@@ -39,15 +42,33 @@ count-vectors-requires c κs =
 add-all : tie.Need-add-all Inv-loop μ-loop
 add-all c = search needs
 
+mul-graded : tie.Need-mul-graded Inv-loop μ-loop
+mul-graded c = omega (arith, c .grade-words .ensures)
+
+sub-graded : tie.Need-sub-graded Inv-loop μ-loop
+sub-graded c =
+    let start = c .before .before .before .before .before .before .before .before .before .before .before in
+    omega (arith, c .grade-words .ensures, start .pre .0 .long)
+
+part-graded-start : tie.Need-part-graded-start Inv-loop μ-loop
+part-graded-start c =
+    let start = c .before .before .before .before .before .before .before .before .before .before .before in
+    omega (arith, c .grade-words .ensures, start .pre .0 .long)
+
+part-graded-end : tie.Need-part-graded-end Inv-loop μ-loop
+part-graded-end c =
+    let start = c .before .before .before .before .before .before .before .before .before .before .before in
+    omega (arith, c .grade-words .ensures, start .pre .0 .long)
+
 loop-holds : tie.Need-loop-holds Inv-loop μ-loop
 loop-holds c =
-    let at-table = c .before .before in
+    let at-table = c .before .before .before .before .before in
     let start = at-table .before .before .before .before .before .before .before in
     (omega arith, refl, refl, at-table .before .before .place-table .ensures, at-table .before .walk-room .ensures, at-table .place-table2 .ensures, omega arith, start .pre .2, updated-none)
 
 vector-at-requires : tie.Need-vector-at-requires Inv-loop μ-loop
 vector-at-requires c κs =
-    let at-count = c .before .before .before in
+    let at-count = c .before .before .before .before .before .before in
     let at-table = at-count .before in
     let start = at-table .before .before .before .before .before .before .before in
     let shape = start .pre .0 .ready .shape in
@@ -69,7 +90,7 @@ catch-vector-requires : tie.Need-catch-vector-requires Inv-loop μ-loop
 catch-vector-requires c κs =
     let at-vector = c .before .before .before .before in
     let at-loop = at-vector .before .before in
-    let at-count = at-loop .before .before in
+    let at-count = at-loop .before .before .before .before .before in
     let at-table = at-count .before in
     let start = at-table .before .before .before .before .before .before .before in
     let shape = start .pre .0 .ready .shape in
@@ -93,7 +114,7 @@ take-in-requires c κs =
     let at-catch = c .before .before .before .before .before .before in
     let at-test = at-catch .before .before .before .before .before .before in
     let at-loop = at-test .before in
-    let at-count = at-loop .before .before in
+    let at-count = at-loop .before .before .before .before .before in
     let at-table = at-count .before in
     let start = at-table .before .before .before .before .before .before .before in
     let shape = start .pre .0 .ready .shape in
@@ -101,7 +122,8 @@ take-in-requires c κs =
       omega (arith, inv .6, start .pre .1 .few, at-test .loop-test .taken, at-count .count-vectors .ensures),
       omega (arith, shape .few-nodes, shape .few-graphs),
       at-catch .catch-vector .ensures .long,
-      rw (all-places shape) (inv .7),
+      words-long (start .pre .0) (at-loop .before .before .grade-words .ensures),
+      rw (all-places shape) (counted-as (λ f l. sym (words-are (start .pre .0) (at-loop .before .before .grade-words .ensures) f l)) (inv .7)),
     )
 
 add-i : tie.Need-add-i Inv-loop μ-loop
@@ -109,7 +131,7 @@ add-i c =
     let at-take = c .before .before .before .before in
     let at-catch = at-take .before .before .before .before .before .before .before in
     let at-test = at-catch .before .before .before .before .before .before in
-    let at-count = at-test .before .before .before in
+    let at-count = at-test .before .before .before .before .before .before in
     let at-table = at-count .before in
     let start = at-table .before .before .before .before .before .before .before in
     omega (arith, at-test .loop-test .taken, at-count .count-vectors .ensures, start .pre .1 .few)
@@ -126,7 +148,7 @@ loop-again c =
     let at-catch = at-take .before .before .before .before .before .before .before in
     let at-vector = at-catch .before .before .before .before .before in
     let at-loop = at-vector .before .before in
-    let at-table = at-loop .before .before .before in
+    let at-table = at-loop .before .before .before .before .before .before in
     let start = at-table .before .before .before .before .before .before .before in
     let inv = at-loop .loop .inv in
     let tabled = start .pre .0 in
@@ -134,13 +156,13 @@ loop-again c =
     let took = at-take .take-in in
     let catch-kept = at-catch .catch-vector .kept .1 .1 .1 .1 in (
       omega (arith, at-vector .before .loop-test .taken),
-      omega (arith, inv .1, took .kept .1 .1 .1 .0),
-      omega (arith, inv .2, took .kept .1 .1 .1 .1 .0),
+      omega (arith, inv .1, took .kept .1 .1 .1 .1 .0),
+      omega (arith, inv .2, took .kept .1 .1 .1 .1 .1 .0),
       omega (arith, inv .3, catch-kept .0),
       omega (arith, inv .4, catch-kept .1 .0),
       omega (arith, inv .5, catch-kept .1 .1 .0),
       omega (arith, inv .6, took .ensures .0),
-      rw (all-places (tabled .ready .shape)) at (took .ensures .2),
+      counted-as (words-are tabled (at-loop .before .before .grade-words .ensures)) (rw (all-places (tabled .ready .shape)) at (took .ensures .2)),
       updated-more (inv .8) (rw (at-vector .vector-at .ensures, inv .6) at (updated (tabled .ready .shape) _ told (took .ensures .1))),
     )
 
@@ -154,7 +176,7 @@ same-length-2 c =
 returns : tie.Need-returns Inv-loop μ-loop
 returns c =
     let at-loop = c .before in
-    let at-count = at-loop .before .before in
+    let at-count = at-loop .before .before .before .before .before in
     let at-table = at-count .before in
     let start = at-table .before .before .before .before .before .before .before in
     let inv = at-loop .loop .inv in
@@ -172,6 +194,11 @@ take-block-spec =
     place-table-requires-2
     count-vectors-requires
     add-all
+    (λ c κs. search needs)
+    mul-graded
+    sub-graded
+    part-graded-start
+    part-graded-end
     loop-holds
     vector-at-requires
     slice-aggregate-catch-vector

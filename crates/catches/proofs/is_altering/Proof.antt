@@ -1,7 +1,9 @@
 -- `catches::is_altering` meets its contract. Assumes nothing.
 use mathlib.Core.Path.{sym, _∙_}
 use native.Mathlib.Omega.{arith}
+use Rattle.layout.proofs.Firsts.{node-below}
 use Rattle.layout.proofs.Places.{walkable}
+use Rattle.cardtables.proofs.Stems.{sole-is}
 use Rattle.rules.proofs.Faults.{critical-observable}
 use Rattle.catches.proofs.Told.{sole-both, sole-tells}
 use borrow.Author.Needs.{needs}
@@ -22,7 +24,7 @@ returns c =
 sole-reader-requires : tie.Need-sole-reader-requires
 sole-reader-requires c κs =
     let start = c .before .before .before .before .before .before .before in
-    (omega (arith, start .pre .0 .ready .shape .few-graphs, start .pre .2), start .pre .0 .long)
+    (omega (arith, start .pre .0 .ready .shape .few-graphs, start .pre .2), omega (arith, start .pre .0 .long))
 
 sub-get : tie.Need-sub-get
 sub-get c = omega (arith, sole-both (c .before .before .sole-reader .result) (sym (c .before .is-sole .ensures) ∙ c .if2 .taken) .0)
@@ -34,7 +36,8 @@ get-requires c κs =
     let start = at-sole-reader .before .before .before .before .before .before .before .before in
     let e = at-sole-reader .sole-reader .ensures in
     let b = sole-both (at-sole-reader .sole-reader .result) (sym (at-is-sole .is-sole .ensures) ∙ c .if2 .taken) in
-    omega (arith, e, b .0, start .pre .5, start .pre .0 .noted .upto (start .args .g) (omega (arith, start .pre .0 .ready .shape .few-graphs, start .pre .2)) (rw (← e) (b .1)))
+    let (h, k, o, q) = sole-is (start .pre .0) (start .args .g) (start .pre .2) (rw (← e) (b .0)) (rw (← e) (b .1)) in
+    omega (arith, e, q, start .pre .5, node-below (start .pre .0 .ready .shape) h k (o .graph) (o .node))
 
 returns-2 : tie.Need-returns-2
 returns-2 c =

@@ -22,7 +22,7 @@ abbrev μ-loop : tie.MeasureT-loop
 begin-requires : tie.Need-begin-requires Inv-loop μ-loop
 begin-requires c κs =
     let start = c .before .before .before .before in
-    (start .pre .1, start .pre .0 .ready .shape .few-graphs, start .pre .0 .long, start .pre .3, start .pre .4)
+    (start .pre .1, start .pre .0 .ready .shape .few-graphs, omega (arith, start .pre .0 .long), start .pre .3, start .pre .4)
 
 loop-holds : tie.Need-loop-holds Inv-loop μ-loop
 loop-holds c =

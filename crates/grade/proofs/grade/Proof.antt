@@ -17,14 +17,21 @@ returns c =
     (sym (at-tests .test-grade .ensures) ∙ c .before .rule2 .given .1) in
     (ap replyTold (d .0), d .1, d .2)
 
+make-tables-requires : tie.Need-make-tables-requires
+make-tables-requires c κs =
+    let at-c = c .before .before .before .before in
+    let (a, s) = opened-with _ _ (sym (at-c .before .before .open-list .ensures) ∙ at-c .c .given .1) in
+    listed a s .shape
+
 grade-list-requires : tie.Need-grade-list-requires
 grade-list-requires c κs =
-    let at-sound = c .before .before in
+    let at-tables = c .before .before .before in
+    let at-sound = at-tables .before in
     let at-tests = at-sound .before .before in
     let at-c = at-tests .before .before in
     let (a, s) = opened-with _ _ (sym (at-c .before .before .open-list .ensures) ∙ at-c .c .given .1) in
     let room = grade-room _ _ _ (sym (at-tests .test-grade .ensures) ∙ at-sound .enum-told .given .1) in
-    (listed a s, room .0, room .1)
+    (listed a s, at-tables .make-tables .ensures, room .0, room .1)
 
 returns-2 : tie.Need-returns-2
 returns-2 c =
@@ -34,7 +41,7 @@ returns-2 c =
 returns-3 : tie.Need-returns-3
 returns-3 c =
     let at-work = c .before .before .before .before in
-    let at-sound = at-work .before .before .before in
+    let at-sound = at-work .before .before .before .before .before in
     let at-tests = at-sound .before .before in
     let at-c = at-tests .before .before in
     let d = two-done _ _ (gradeTests _ _) _ _ _ _ _ (sym (at-c .before .before .open-list .ensures) ∙ at-c .c .given .1)
@@ -45,4 +52,4 @@ returns-3 c =
 pub grade-spec : {M : Type 1} → statement M
 grade-spec =
     tie.close
-    (tie.spec (λ c κs. search needs) (λ c. search needs) (λ c. search needs) (λ c κs. search needs) (λ c. search needs) returns (λ c. search needs) grade-list-requires returns-2 (λ c. search needs) (λ c. search needs) returns-3)
+    (tie.spec (λ c κs. search needs) (λ c. search needs) (λ c. search needs) (λ c κs. search needs) (λ c. search needs) returns (λ c. search needs) make-tables-requires grade-list-requires returns-2 (λ c. search needs) (λ c. search needs) returns-3)

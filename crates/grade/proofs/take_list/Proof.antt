@@ -5,6 +5,7 @@ use Rattle.grade.proofs.Graded.{list-ends, list-part, block-of, block-n
 use Rattle.grade.proofs.take_list.Statement.{statement}
 use Rattle.grade.proofs.take_list.Tie as tie
 use Rattle.grade.specs.Graded.{Graded}
+use Rattle.cardtables.specs.Stems.{inGrade}
 use Rattle.running.specs.Running.{Counted}
 use Rattle.testvectors.specs.Vectors.{vectors}
 use borrow.Author.Needs.{needs}
@@ -14,7 +15,7 @@ use native.Mathlib.Omega.{arith}
 
 abbrev Inv-loop : tie.InvT-loop
 Inv-loop card c tables list marks₀ tallies₀ w n r₀ t₀ marks tallies r t =
-    (t ≤ n) × (length marks ≡ length marks₀) × (length tallies ≡ length tallies₀) × (r .vector ≡ t) × Counted (c .faults) marks tallies r
+    (t ≤ n) × (length marks ≡ length marks₀) × (length tallies ≡ length tallies₀) × (r .vector ≡ t) × Counted (inGrade card c) (c .faults) marks tallies r
     × Graded card c list t marks₀ tallies₀ marks tallies
 
 abbrev μ-loop : tie.MeasureT-loop

@@ -12,7 +12,7 @@ take-list-requires c κs =
     let at-tables = at-begin .before .before .before in
     let start = at-tables .before .before .before .before .before in
     let begun = at-begin .begin .ensures in
-    (start .pre .0, at-tables .make-tables .ensures, begun .vector, begun .counted, graded-none _ _ (begun .marks) (begun .tallies))
+    (start .pre .0, at-tables .make-tables .ensures, begun .vector, begun .counted _, graded-none _ _ (begun .marks) (begun .tallies))
 
 returns : tie.Need-returns
 returns c =

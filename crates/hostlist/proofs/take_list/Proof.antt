@@ -6,6 +6,7 @@ use Rattle.grade.specs.Graded.{Graded}
 use Rattle.hostlist.proofs.Gradings.{vectors-are, bytes-ends, words-fit, bytes-part, bytes-block}
 use Rattle.hostlist.proofs.take_list.Statement.{statement}
 use Rattle.hostlist.proofs.take_list.Tie as tie
+use Rattle.cardtables.specs.Stems.{inGrade}
 use Rattle.running.specs.Running.{Counted}
 use Rattle.testvectors.proofs.Laws.{width-some}
 use Rattle.testvectors.specs.Vectors.{vectors}
@@ -19,7 +20,7 @@ use native.Mathlib.Omega.{arith}
 abbrev Inv-loop : tie.InvT-loop
 Inv-loop card c tables list marks₀ tallies₀ buffer₀ w n r₀ t₀ marks tallies buffer r t =
     (t ≤ n) × (length marks ≡ length marks₀) × (length tallies ≡ length tallies₀) × (4096 ≡ length buffer) × (r .vector ≡ t)
-    × Counted (c .faults) marks tallies r × Graded card c (wordsOf list) t marks₀ tallies₀ marks tallies
+    × Counted (inGrade card c) (c .faults) marks tallies r × Graded card c (wordsOf list) t marks₀ tallies₀ marks tallies
 
 abbrev μ-loop : tie.MeasureT-loop
 μ-loop card c tables list marks₀ tallies₀ buffer₀ w n r₀ t₀ marks tallies buffer r t = n - t

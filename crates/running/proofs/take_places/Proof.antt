@@ -1,51 +1,53 @@
 -- `running::take_places` meets its contract. Assumes nothing.
--- The invariant: the words of the places below p are taken in and the others as they were, and m counts the faults with a tally.
+-- The invariant: the words of the places below p are taken in and the others as they were, and m is the marked count of the tallies.
 use Rattle.running.proofs.take_places.Tie as tie
 use Prim.Native.Nat.{_≤_, _-_, _*_}
 use Rattle.running.proofs.Fold.{found-more, found-few, small-rest, folded-none, folded-more}
 use Rattle.running.proofs.take_places.Statement.{statement}
-use Rattle.running.specs.Running.{found, Folded}
+use Rattle.running.specs.Running.{inGradeBy, found, Folded}
 use borrow.Author.Needs.{needs}
 use lib.ListN.{length}
 use mathlib.Core.Path.{_≡_, refl}
 use native.Mathlib.Omega.{arith}
 
 abbrev Inv-loop : tie.InvT-loop
-Inv-loop t n caught marked marks₀ tallies₀ m₀ p₀ marks tallies m p =
-    (p ≤ n) × (length marks ≡ length marks₀) × (length tallies ≡ length tallies₀) × (m ≡ found tallies (2 * n)) × Folded t p caught marks₀ tallies₀ marks tallies
+Inv-loop t n caught graded marked marks₀ tallies₀ m₀ p₀ marks tallies m p =
+    (p ≤ n) × (length marks ≡ length marks₀) × (length tallies ≡ length tallies₀) × (m ≡ found (inGradeBy graded) tallies (2 * n))
+    × Folded t p caught marks₀ tallies₀ marks tallies
 
 abbrev μ-loop : tie.MeasureT-loop
-μ-loop t n caught marked marks₀ tallies₀ m₀ p₀ marks tallies m p =
+μ-loop t n caught graded marked marks₀ tallies₀ m₀ p₀ marks tallies m p =
     n - p
 
 loop-holds : tie.Need-loop-holds Inv-loop μ-loop
 loop-holds c =
-    let start = c .before .before .before in
-    (omega arith, refl, refl, start .pre .5, folded-none)
+    let start = c .before .before .before .before in
+    (omega arith, refl, refl, start .pre .6, folded-none)
 
 get-requires : tie.Need-get-requires Inv-loop μ-loop
 get-requires c κs =
-    omega (arith, c .before .before .before .before .before .pre .2, c .loop-test .taken)
+    omega (arith, c .before .before .before .before .before .before .pre .2, c .loop-test .taken)
 
 take-place-requires : tie.Need-take-place-requires Inv-loop μ-loop
 take-place-requires c κs =
     let at-test = c .before .before .before in
     let at-loop = at-test .before in
-    let start = at-loop .before .before .before .before in
+    let start = at-loop .before .before .before .before .before in
     let inv = at-loop .loop .inv in
     let here = at-test .loop-test .taken in (
       start .pre .0,
-      omega (arith, start .pre .1, inv .3, found-few (at-loop .loop .tallies) (2 * start .args .n)),
+      omega (arith, start .pre .1, inv .3, found-few (inGradeBy (start .args .graded .now)) (at-loop .loop .tallies) (2 * start .args .n)),
       omega (arith, start .pre .1, here),
-      omega (arith, start .pre .3, inv .1, here),
-      omega (arith, start .pre .4, inv .2, here),
-      small-rest (start .pre .6) (inv .4) (omega (arith, here)),
+      omega (arith, start .pre .3, here),
+      omega (arith, start .pre .4, inv .1, here),
+      omega (arith, start .pre .5, inv .2, here),
+      small-rest (start .pre .7) (inv .4) (omega (arith, here)),
     )
 
 add-p : tie.Need-add-p Inv-loop μ-loop
 add-p c =
     let at-test = c .before .before .before .before .before .before .before .before in
-    omega (arith, at-test .before .before .before .before .before .pre .1, at-test .loop-test .taken)
+    omega (arith, at-test .before .before .before .before .before .before .pre .1, at-test .loop-test .taken)
 
 loop-less : tie.Need-loop-less Inv-loop μ-loop
 loop-less c =
@@ -57,21 +59,21 @@ loop-again c =
     let at-get = at-take .before .before .before in
     let at-test = at-get .before in
     let at-loop = at-test .before in
-    let start = at-loop .before .before .before .before in
+    let start = at-loop .before .before .before .before .before in
     let inv = at-loop .loop .inv in
     let took = at-take .take-place in
     let here = at-test .loop-test .taken in (
       omega (arith, here),
-      omega (arith, inv .1, took .kept .1 .1 .1 .1 .0),
-      omega (arith, inv .2, took .kept .1 .1 .1 .1 .1 .0),
-      found-more (took .ensures) here (omega (arith, start .pre .4, inv .2)) (inv .3),
-      folded-more (inv .4) (at-get .get .ensures) (omega (arith, start .pre .3, inv .1, here)) (omega (arith, start .pre .4, inv .2, here)) (took .ensures),
+      omega (arith, inv .1, took .kept .1 .1 .1 .1 .1 .0),
+      omega (arith, inv .2, took .kept .1 .1 .1 .1 .1 .1 .0),
+      found-more (start .args .graded .now) (took .ensures) here (omega (arith, start .pre .5, inv .2)) (inv .3),
+      folded-more (inv .4) (at-get .get .ensures) (omega (arith, start .pre .4, inv .1, here)) (omega (arith, start .pre .5, inv .2, here)) (took .ensures),
     )
 
 returns : tie.Need-returns Inv-loop μ-loop
 returns c =
     let l = c .before .loop in
-    let e : l .p ≡ c .before .before .before .before .before .args .n = omega (arith, l .inv .0, c .loop-test .left) in
+    let e : l .p ≡ c .before .before .before .before .before .before .args .n = omega (arith, l .inv .0, c .loop-test .left) in
     (l .inv .3, rw e at (l .inv .4))
 
 pub take-places-spec : {M : Type 1} → statement M

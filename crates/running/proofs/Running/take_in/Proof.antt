@@ -8,10 +8,10 @@ use mathlib.Core.Path.{refl}
 returns : tie.Need-returns
 returns c =
     let at-take = c .before .before .before .before in
-    let start = at-take .before .before .before .before .before .before in
+    let start = at-take .before .before .before .before .before .before .before in
     let took = at-take .take-places in
-    let kept = took .kept .1 .1 .1 .1 in
-    (refl, took .ensures .1, counted-next (start .pre .3) (took .ensures .1) (kept .0) (kept .1 .0) (took .ensures .0))
+    let kept = took .kept .1 .1 .1 .1 .1 in
+    (refl, took .ensures .1, counted-next (start .pre .4) (took .ensures .1) (kept .0) (kept .1 .0) (took .ensures .0))
 
 pub take-in-spec : {M : Type 1} → statement M
 take-in-spec = tie.close (tie.spec (λ c κs. search needs) (λ c. search needs) (λ c. search needs) (λ c. search needs) returns)

@@ -6,10 +6,9 @@ use native.Mathlib.Omega.{arith}
 use native.Mathlib.Decide.{decLt}
 use borrow.Author.Tests.{lt-ltb, le-ltb}
 use Rattle.answers.specs.declared.Counts.{Counts}
-use Rattle.layout.specs.Layout.{first, size}
+use Rattle.layout.specs.Layout.{first, size, standsIn}
 use Rattle.layout.specs.Shape.{Shape}
 use Rattle.layout.proofs.Firsts.{first-next, one-place, node-below}
-use Rattle.detect.specs.Detects.{standsIn}
 
 -- each node below those of graph G stands in a graph
 pub owner : (ws : List ℕ) (G p : ℕ) → p < first ws G

@@ -1,19 +1,21 @@
--- `layout::note_graph` meets its contract. The invariant: the nodes before the graph's node k are noted. Assumes nothing.
-use Prim.Native.Nat.{_≤_, _+_, _-_}
+-- `cardtables::note_graph` meets its contract. The invariant: the nodes before the graph's node k are noted. Assumes nothing.
+use Prim.Native.Nat.{ℕ, _≤_, _+_, _-_}
 use mathlib.Core.Path.{_≡_, refl, ap, _∙_}
 use native.Mathlib.Omega.{arith}
+use native.Mathlib.Nat.{add-zero}
 use native.Mathlib.Numerals.{add-one}
 use lib.ListN.{length}
 use Rattle.layout.specs.Layout.{first}
-use Rattle.layout.specs.Tables.{Noted}
+use Rattle.cardtables.specs.Tables.{ReadIn, Noted}
 use Rattle.layout.proofs.Firsts.{first-next}
 use Rattle.layout.proofs.Places.{size-asks, size-told, first-is, node-inside, place-is, read-below}
 use borrow.Author.Needs.{needs}
-use Rattle.layout.proofs.note_graph.Statement.{statement}
-use Rattle.layout.proofs.note_graph.Tie as tie
+use Rattle.cardtables.proofs.note_graph.Statement.{statement}
+use Rattle.cardtables.proofs.note_graph.Tie as tie
 
 abbrev Inv-loop : tie.InvT-loop
-Inv-loop card firsts h tables₀ first n k₀ tables k = (k ≤ n) × (length tables ≡ length tables₀) × Noted card (first + k) tables
+Inv-loop card firsts h tables₀ first n k₀ tables k = (k ≤ n) × (length tables ≡ length tables₀)
+    × ((q : ℕ → ℕ) → ReadIn card q h → Noted card q first tables₀ → Noted card q (first + k) tables)
 
 abbrev μ-loop : tie.MeasureT-loop
 μ-loop card firsts h tables₀ first n k₀ tables k = n - k
@@ -22,11 +24,7 @@ graph-size-requires : tie.Need-graph-size-requires Inv-loop μ-loop
 graph-size-requires c κs = size-asks (c .before .before .before .before .pre .0)
 
 loop-holds : tie.Need-loop-holds Inv-loop μ-loop
-loop-holds c =
-    let at-first-node = c .before in
-    let start = at-first-node .before .before .before .before in
-    let e : at-first-node .first-node .result + 0 ≡ first (start .args .card .now) (start .args .h) = omega (arith, first-is (start .pre .0) (at-first-node .first-node .ensures)) in
-    (omega arith, refl, rw e (start .pre .4))
+loop-holds c = (omega arith, refl, λ q r d. rw add-zero d)
 
 add-note-node : tie.Need-add-note-node Inv-loop μ-loop
 add-note-node c =
@@ -62,8 +60,13 @@ loop-again c =
     let start = at-first-node .before .before .before .before in
     let f = at-first-node .first-node .ensures in
     let b = rw (size-told (start .pre .0) (at-size .graph-size .ensures)) at (at-loop-test .loop-test .taken) in
-    let e : at-first-node .first-node .result + (at-loop .loop .k + 1) ≡ at-first-node .first-node .result + at-loop .loop .k + 1 = omega arith in
-    (search needs, search needs, rw e (at-note-node .note-node .ensures (at-loop .loop .k) b (place-is (start .pre .0) b f) (at-loop .loop .inv .2)))
+    let e : at-first-node .first-node .result + (at-loop .loop .k + 1) ≡ at-first-node .first-node .result + at-loop .loop .k + 1 = omega arith in (
+      search needs,
+      search needs,
+      λ q r d.
+          let p = place-is (start .pre .0) b f in
+          rw e (at-note-node .note-node .ensures q (at-loop .loop .k) b p (ap q p ∙ r (at-loop .loop .k) b) (at-loop .loop .inv .2 q r d)),
+    )
 
 returns : tie.Need-returns Inv-loop μ-loop
 returns c =
@@ -74,7 +77,7 @@ returns c =
     let n = size-told (start .pre .0) (at-size .graph-size .ensures) in
     let e : first (start .args .card .now) (start .args .h + 1) ≡ at-first-node .first-node .result + at-loop .loop .k
     = ap (first _) (add-one (start .args .h)) ∙ first-next _ (start .args .h) ∙ omega (arith, n, first-is (start .pre .0) (at-first-node .first-node .ensures), c .loop-test .left, at-loop .loop .inv .0) in
-    rw e (at-loop .loop .inv .2)
+    λ q r d. rw e (at-loop .loop .inv .2 q r (rw (first-is (start .pre .0) (at-first-node .first-node .ensures)) d))
 
 pub note-graph-spec : {M : Type 1} → statement M
 note-graph-spec =

@@ -1,8 +1,8 @@
--- `layout::is_sole` meets its contract. Assumes nothing.
+-- `cardtables::is_sole` meets its contract. Assumes nothing.
 use native.Mathlib.Omega.{arith}
 use borrow.Author.Tests.{lt-ltb, le-ltb}
-use Rattle.layout.proofs.is_sole.Statement.{statement}
-use Rattle.layout.proofs.is_sole.Tie as tie
+use Rattle.cardtables.proofs.is_sole.Statement.{statement}
+use Rattle.cardtables.proofs.is_sole.Tie as tie
 
 returns : tie.Need-returns
 returns c = rw (le-ltb 0 (c .before .args .p) (omega (arith, c .if1 .taken)))

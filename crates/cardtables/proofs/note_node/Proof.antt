@@ -1,9 +1,9 @@
--- `layout::note_node` meets its contract. Assumes nothing.
+-- `cardtables::note_node` meets its contract. Assumes nothing.
 use Rattle.layout.proofs.Places.{read-at}
-use Rattle.layout.proofs.Readers.{node-noted}
+use Rattle.cardtables.proofs.Readers.{node-noted}
 use borrow.Author.Needs.{needs}
-use Rattle.layout.proofs.note_node.Statement.{statement}
-use Rattle.layout.proofs.note_node.Tie as tie
+use Rattle.cardtables.proofs.note_node.Statement.{statement}
+use Rattle.cardtables.proofs.note_node.Tie as tie
 
 returns : tie.Need-returns
 returns c =
@@ -16,7 +16,7 @@ returns c =
     let start = at-graph-read .before .before .before in
     let q = at-graph-read .graph-read .ensures in
     let w = at-sole-with .sole-with .ensures in
-    λ k l e d. node-noted _ k d l e (read-at _ _ k e q) (rw q (start .pre .1)) (at-readers-of .readers-of .ensures) (at-put .put .ensures .0) (at-put .put .ensures .1)
+    λ f k l e a d. node-noted _ k d (start .pre .2) l e a (read-at _ _ k e q) (rw q (start .pre .1)) (at-readers-of .readers-of .ensures) (at-put .put .ensures .0) (at-put .put .ensures .1)
     (search needs) (at-sole-reader .sole-reader .ensures) (w .0) (w .1) (at-put2 .put2 .ensures)
 
 pub note-node-spec : {M : Type 1} → statement M

@@ -1,0 +1,3 @@
+pub mod Stems
+pub mod Tables
+pub mod Readers

@@ -1,0 +1,39 @@
+-- Which faults count in the grade, by the card's words alone: document 02, 'A lead counts a single time'. For an accepted card. Assumes nothing.
+use Prim.Native.Nat.{ℕ, _-_, _/_}
+use mathlib.Core.List.{List}
+use mathlib.Core.Bool.{Bool, not, _||_}
+use lib.Dec.{ltb, eqb}
+use Rattle.lists.specs.Counting.{count}
+use Rattle.answers.specs.declared.Counts.{Counts}
+use Rattle.layout.specs.Layout.{first, observable, reads, standsIn}
+
+module _ (ws : List ℕ) (c : Counts) where
+  -- the graph that node j reads
+  unfoldable pub readBy : ℕ → ℕ
+  unfolding first reads standsIn
+  readBy j = reads ws (standsIn ws j (c .graphs)) (j - first ws (standsIn ws j (c .graphs)))
+
+  -- how many nodes read graph g: nodes are counted, not graphs
+  unfoldable pub readers : ℕ → ℕ
+  unfolding count readBy
+  readers g = count (λ j. eqb (readBy j) g) (c .nodes)
+
+  -- GRAPH g HAS A STEM, unless it is not observable and exactly one node reads it; an input is not observable
+  unfoldable pub hasStem : ℕ → Bool
+  unfolding observable readers
+  hasStem g = observable ws g || not (eqb (readers g) 1)
+
+  -- place p, which is node p or graph p - N, counts in the grade: every node does, and a graph that has a stem
+  unfoldable pub placeInGrade : ℕ → Bool
+  unfolding hasStem
+  placeInGrade p = ltb p (c .nodes) || hasStem (p - c .nodes)
+
+  -- FAULT f COUNTS IN THE GRADE: it is one of the two of a place that does
+  unfoldable pub inGrade : ℕ → Bool
+  unfolding placeInGrade
+  inGrade f = placeInGrade (f / 2)
+
+  -- THE TOTAL: how many faults count
+  unfoldable pub total : ℕ
+  unfolding count inGrade
+  total = count inGrade (c .faults)
