@@ -32,9 +32,10 @@ module _ {ws : List ℕ} {c : Counts} (a : Shape ws c) where
       let e : first ws h + k - first ws h ≡ k = omega arith in
       rw (stands-in a h k l i, e)
 
-  pub read-below : (j : ℕ) → j < c .nodes → readBy ws c j < c .graphs
+  -- a node reads a graph of the card
+  pub reads-graph : (j : ℕ) → j < c .nodes → readBy ws c j < c .graphs
   unfolding readBy
-  read-below j l =
+  reads-graph j l =
       let h : ℕ = standsIn ws j (c .graphs) in
       let o = owner ws (c .graphs) j (rw (a .nodes-in) l) in
       omega (arith, o .0, a .reads-lower h (o .0) (j - first ws h) (omega (arith, o .1, o .2)))

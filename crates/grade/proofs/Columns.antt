@@ -16,7 +16,7 @@ use Rattle.answers.specs.Calls.{replied, written, doneBy}
 use Rattle.form.specs.Check.{checked}
 use Rattle.form.proofs.Checked.{check-accepts}
 use Rattle.cardtables.specs.Stems.{readBy, hasStem}
-use Rattle.cardtables.proofs.Stems.{read-below}
+use Rattle.cardtables.proofs.Stems.{reads-graph}
 use Rattle.rules.proofs.Leads.{lead-mark, lead-tally}
 use Rattle.detect.specs.Grading.{mark, tally, marked}
 use Rattle.detect.proofs.Grading.{unmarked-exactly}
@@ -52,6 +52,6 @@ module _ (ws xs b d : List ℕ) {n : ℕ} (done : gradeReply ws xs b d ≡ Done 
       × (getD (talliesBuffer ws xs b d) (2 * (c .nodes + g) + v) 0 ≡ getD (talliesBuffer ws xs b d) (2 * j + v) 0)
   leads-agree g j v s l r h =
       let a = check-accepts ws 0 c e .shape in
-      let m : 2 * (c .nodes + g) + v < c .faults = omega (arith, a .all-faults, r, read-below a j l) in
+      let m : 2 * (c .nodes + g) + v < c .faults = omega (arith, a .all-faults, r, reads-graph a j l) in
       let n : 2 * j + v < c .faults = omega (arith, a .all-faults) in
       (mark-left _ m ∙ lead-mark a s l r v h xs ∙ sym (mark-left _ n), tally-left _ m ∙ lead-tally a s l r v h xs ∙ sym (tally-left _ n))

@@ -51,14 +51,10 @@ sub-graded c =
     omega (arith, c .grade-words .ensures, start .pre .0 .long)
 
 part-graded-start : tie.Need-part-graded-start Inv-loop μ-loop
-part-graded-start c =
-    let start = c .before .before .before .before .before .before .before .before .before .before .before in
-    omega (arith, c .grade-words .ensures, start .pre .0 .long)
+part-graded-start c = sub-graded c
 
 part-graded-end : tie.Need-part-graded-end Inv-loop μ-loop
-part-graded-end c =
-    let start = c .before .before .before .before .before .before .before .before .before .before .before in
-    omega (arith, c .grade-words .ensures, start .pre .0 .long)
+part-graded-end c = omega arith
 
 loop-holds : tie.Need-loop-holds Inv-loop μ-loop
 loop-holds c =
