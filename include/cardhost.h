@@ -9,12 +9,15 @@
  * A CARD is a set of decision graphs; docs/FORMAT.md has its words. With N nodes and G graphs it has
  * F = 2N + 2G faults. Fault 2j makes node j always take its 0-exit, 2j + 1 its 1-exit; fault 2N + 2g
  * holds graph g at 0, 2N + 2g + 1 at 1. A vector catches a fault exactly when, with the fault in, an
- * observable graph differs from its value with no fault.
+ * observable graph differs from its value with no fault. A node decides on the value of the graph that
+ * it reads or, where bit 16 of its read (a kind 3 word) is set, on one minus that: an inverted read. A
+ * node's faults are about its exits, a graph's about its own value.
  *
  * A LEAD counts a single time. A graph that is not observable (no input is) and that exactly one node of
  * the card reads is a lead, with no stem: held at 0 it is caught by the same vectors as that node stuck at
- * its 0-exit, and held at 1 as at its 1-exit. Its two faults do not count in the grade. All others do, also
- * those of a graph that nobody reads. How many count is found from the card's words (examples/host.c does it).
+ * its 0-exit, and held at 1 as at its 1-exit; where the read is inverted, the other way round. Its two faults
+ * do not count in the grade. All others do, also those of a graph that nobody reads. How many count is found
+ * from the card's words (examples/host.c does it).
  *
  * A VECTOR for m inputs is w = m / 16 words, rounded up: A0000000 plus, in bit i of word j, the value
  * of input 16 * j + i. A list has 0 to 65,535 vectors, one after the other, numbered from 0.
@@ -22,8 +25,8 @@
  * TWO CARDS, A and B, are joined by a wire word for each of B's inputs, in their order: the number of a
  * graph of A, be it an input, hidden or observable, or FFFFFFFF where the input stays free. The joined
  * card has A's inputs, B's free inputs, A's outputs and B's outputs, each in their order, numbered anew
- * from 0. A wired input of B is gone, and its readers read the graph of A. A's nodes keep their numbers,
- * and B's follow them. All else stays as it was.
+ * from 0. A wired input of B is gone, and its readers read the graph of A, inverted where they were.
+ * A's nodes keep their numbers, and B's follow them. All else stays as it was.
  *
  * THE ANSWER of every call is one 64-bit number. Below 4294967296 the call is done, and the number is
  *   - of card_grade, the marked count: how many of the faults that count are caught;
@@ -41,7 +44,7 @@
  *    3   a header's node count is 0, or takes the nodes over 4,096     the header
  *    4   kind not due there, an input after an output, or the words    the word, or
  *        end inside a graph; also a card's leftover bytes              the word count
- *    5   a bit that must be zero is set                                the word
+ *    5   a bit that must be zero is set, of a read one of 28..17       the word
  *    6   the graph read is not below its own                           the kind 3 word
  *    7   an exit to a node not later, or not in the graph              the kind 4 word
  *    8   a local node that no exit names                               the header

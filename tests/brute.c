@@ -21,6 +21,7 @@ struct card {
     unsigned first[MAX_GRAPHS + 1]; /* the number of a graph's first node */
     unsigned home[MAX_NODES];       /* the graph that a node stands in */
     unsigned read[MAX_NODES];       /* the graph that it reads */
+    unsigned inverted[MAX_NODES];   /* 1 where its decision is one minus the value read, else 0 */
     unsigned exit[MAX_NODES][2];
     unsigned readers[MAX_GRAPHS]; /* how many nodes read a graph */
 };
@@ -69,7 +70,7 @@ static uint64_t read_fault(const struct card *c, uint32_t w, size_t at)
 {
     if (w >> 29 != 3)
         return refuse(4, at);
-    if (w & 0x1FFF0000u)
+    if (w & 0x1FFE0000u)
         return refuse(5, at);
     if ((w & 0xFFFF) >= c->graphs)
         return refuse(6, at);
@@ -108,6 +109,7 @@ static uint64_t take_node(struct card *c, const uint8_t *card, size_t words, siz
         return r;
     c->home[j] = c->graphs;
     c->read[j] = get_word(card, at) & 0xFFFF;
+    c->inverted[j] = get_word(card, at) >> 16 & 1;
     c->exit[j][0] = get_word(card, at + 1) >> 14 & 0x3FFF;
     c->exit[j][1] = get_word(card, at + 1) & 0x3FFF;
     return 0;
@@ -218,6 +220,12 @@ struct run {
     signed char saved[MAX_GRAPHS]; /* a graph's value, or -1 */
 };
 
+/* A node's decision where the graph that it reads has this value. */
+static unsigned decided(const struct card *c, unsigned j, unsigned value)
+{
+    return c->inverted[j] ? 1 - value : value;
+}
+
 static unsigned graph_value(struct run *r, unsigned g);
 
 static unsigned node_value(struct run *r, unsigned j)
@@ -227,7 +235,7 @@ static unsigned node_value(struct run *r, unsigned j)
     if (r->fault == 2L * j || r->fault == 2L * j + 1)
         decision = r->fault % 2;
     else
-        decision = graph_value(r, c->read[j]);
+        decision = decided(c, j, graph_value(r, c->read[j]));
     e = c->exit[j][decision];
     return e < 2 ? e : node_value(r, c->first[c->home[j]] + e - 2);
 }
@@ -293,7 +301,8 @@ static uint64_t graph_lanes(const struct card *c, unsigned g, const uint64_t *gr
     value[1] = ~(uint64_t)0;
     for (unsigned k = c->first[g + 1] - c->first[g]; k-- > 0;) {
         unsigned j = c->first[g] + k;
-        uint64_t decision = forced(graphs[c->read[j]], 2L * j, base);
+        uint64_t value_read = graphs[c->read[j]];
+        uint64_t decision = forced(c->inverted[j] ? ~value_read : value_read, 2L * j, base);
         value[k + 2] = (decision & value[c->exit[j][1]]) | (~decision & value[c->exit[j][0]]);
     }
     return value[2];
@@ -508,7 +517,7 @@ uint64_t brute_critical_nodes(const uint8_t *card, size_t card_len, const uint8_
     all_values(c, vector, NO_FAULT, good);
     all_caught(c, vector, caught);
     for (unsigned j = 0; j < c->nodes; j++) /* the fault that forces the exit not taken */
-        put_word(nodes, j, caught[2 * j + 1 - good[c->read[j]]]);
+        put_word(nodes, j, caught[2 * j + 1 - decided(c, j, good[c->read[j]])]);
     return 0;
 }
 
@@ -530,7 +539,7 @@ uint64_t brute_grade(const uint8_t *card, size_t card_len, const uint8_t *vector
 
 /* ---- a lead and its reader ---- */
 
-long brute_lead_to(uint32_t graph)
+long brute_lead_fault(uint32_t graph, unsigned at)
 {
     const struct card *c = &the_card;
     unsigned j = 0;
@@ -538,7 +547,12 @@ long brute_lead_to(uint32_t graph)
         return -1;
     while (c->read[j] != graph)
         j++;
-    return j;
+    return 2L * j + (c->inverted[j] ? 1 - at : at);
+}
+
+int brute_is_crossed(uint32_t fault)
+{
+    return the_card.inverted[fault / 2];
 }
 
 /* ---- two cards wired together ---- */
@@ -609,7 +623,7 @@ static size_t put_graph(uint8_t *card, size_t at, const struct card *c, unsigned
 {
     put_word(card, at++, (uint32_t)c->kind[g] << 29 | (c->first[g + 1] - c->first[g]));
     for (unsigned j = c->first[g]; j < c->first[g + 1]; j++) {
-        put_word(card, at++, (uint32_t)3 << 29 | numbers_of(c)[c->read[j]]);
+        put_word(card, at++, (uint32_t)3 << 29 | c->inverted[j] << 16 | numbers_of(c)[c->read[j]]);
         put_word(card, at++, (uint32_t)4 << 29 | c->exit[j][0] << 14 | c->exit[j][1]);
     }
     return at;

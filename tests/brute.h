@@ -32,9 +32,11 @@ enum { BRUTE_NO_FAULT = -1 };
 void brute_together_values(const uint8_t *vector, long fault, uint8_t *values);
 uint64_t brute_together_grade(const uint8_t *vectors, size_t vectors_len, uint8_t *marks, uint8_t *tallies);
 
-/* Of the card that a call other than brute_join accepted last: the node that a graph is a lead to, being its
- * one reader, or -1 where the graph has a stem. */
-long brute_lead_to(uint32_t graph);
+/* Of the card that a call other than brute_join accepted last: the fault of a graph's one reader that goes with the
+ * graph held at 0 or 1, or -1 where the graph has a stem. It is the node stuck at the exit of that number, and of the
+ * other one where the read is inverted (crossed). */
+long brute_lead_fault(uint32_t graph, unsigned at);
+int brute_is_crossed(uint32_t fault);
 
 /* What cardgrade prints for these bytes; the text's length. The room is at least BRUTE_TEXT. */
 enum { BRUTE_TEXT = 400000 };

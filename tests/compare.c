@@ -126,8 +126,9 @@ uint64_t compare(const struct asked *a, size_t room, size_t tallies_room)
 
 static void one_pair(size_t of_graph, size_t of_node, const uint8_t *marks, const uint8_t *tally_words)
 {
+    int crossed = brute_is_crossed((uint32_t)of_node);
     compared.pairs++;
-    compared.caught_pairs += word_at(tally_words, of_graph) != 0;
+    compared.caught_pairs[crossed] += word_at(tally_words, of_graph) != 0;
     if (word_at(marks, of_graph) != word_at(marks, of_node) || word_at(tally_words, of_graph) != word_at(tally_words, of_node))
         differ("a lead's fault and its reader's");
 }
@@ -137,11 +138,12 @@ void compare_pairs(const uint8_t *words, size_t len, const uint8_t *marks, const
     uint8_t numbers[20];
     if (brute_check(words, len, numbers, sizeof numbers))
         return;
-    for (uint32_t g = 0; g < word_at(numbers, 1); g++) {
-        long reader = brute_lead_to(g);
-        for (size_t d = 0; reader >= 0 && d < 2; d++)
-            one_pair(2 * ((size_t)word_at(numbers, 2) + g) + d, 2 * (size_t)reader + d, marks, tally_words);
-    }
+    for (uint32_t g = 0; g < word_at(numbers, 1); g++)
+        for (unsigned d = 0; d < 2; d++) {
+            long fault = brute_lead_fault(g, d);
+            if (fault >= 0)
+                one_pair(2 * ((size_t)word_at(numbers, 2) + g) + d, (size_t)fault, marks, tally_words);
+        }
 }
 
 /* ---- rooms, and the report ---- */

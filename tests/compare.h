@@ -14,7 +14,7 @@ enum { COMPARE_ROOM = 4 * GEN_VECTOR_ROOM + 8, COMPARE_RULES = 14 }; /* the most
 /* What has come of all calls so far; and for what is said of a difference, the input that they are on. */
 extern struct compared {
     unsigned calls, done, refusals[COMPARE_RULES + 1], differ;
-    unsigned pairs, caught_pairs; /* of a lead's fault and its reader's */
+    unsigned pairs, caught_pairs[2]; /* of a lead's fault and its reader's; the second of those that cross over */
     const uint8_t *buffer, *tallies; /* as the engine left them */
     uint64_t seed;
     unsigned inputs;
@@ -28,7 +28,7 @@ void compare_seed(uint64_t seed);
 uint64_t compare(const struct asked *a, size_t room, size_t tallies_room);
 
 /* A lead's two faults are those of the node that reads it: of each pair the marks and the tallies are equal. The
- * words are the engine's; brute force only tells which node reads which lead. */
+ * words are the engine's; brute force only tells which fault of which node goes with a lead's. */
 void compare_pairs(const uint8_t *card, size_t card_len, const uint8_t *marks, const uint8_t *tallies);
 
 /* Counts a difference and says where it is; of the first few, 1, so that more can be said. */

@@ -46,6 +46,7 @@ static struct {
     unsigned equal;   /* further exits equal to their node's other one */
     unsigned near;    /* reads of one of the last few graphs */
     unsigned observe; /* observable graphs */
+    unsigned invert;  /* inverted reads; of half of the cards none */
 } style;
 
 static void pick_style(void)
@@ -55,6 +56,7 @@ static void pick_style(void)
     style.equal = gen_chance(50) ? 0 : 30;
     style.near = 30 * gen_below(4);
     style.observe = gen_chance(50) ? 15 : 50;
+    style.invert = gen_chance(50) ? 0 : 25 + 25 * gen_below(4);
 }
 
 static unsigned exits[MAX_NODES + 1][2];
@@ -113,7 +115,7 @@ static void put_graph(struct input *in, unsigned n, int observable)
     make_exits(n);
     put(in, (observable ? 0x40000000u : 0x20000000u) + n);
     for (unsigned k = 0; k < n; k++) {
-        put(in, 0x60000000u + pick_read(in->graphs));
+        put(in, 0x60000000u + (gen_chance(style.invert) ? 0x10000u : 0) + pick_read(in->graphs));
         put(in, 0x80000000u + (exits[k][0] << 14) + exits[k][1]);
     }
     in->graphs++;
@@ -193,7 +195,7 @@ static void inputs_mostly(struct input *in)
     put_graph(in, 1 + gen_below(30), 1);
 }
 
-static const uint32_t odd_words[] = { 0, 1, 0x20000000, 0x20000001, 0x40000001, 0x40010001, 0x60000000, 0x60000001,
+static const uint32_t odd_words[] = { 0, 1, 0x20000000, 0x20000001, 0x40000001, 0x40010001, 0x60000000, 0x60000001, 0x60010000, 0x60020000,
                                       0x80000001, 0x80000002, 0x80000003, 0x8000C001, 0x90000001, 0xA0000000,
                                       0xC0000000, 0xFFFFFFFF, 0x4000FFFF, 0x40001000, 0x6000FFFF, 0x8FFFFFFF };
 enum { ODD_WORDS = sizeof odd_words / sizeof *odd_words };

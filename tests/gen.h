@@ -22,7 +22,7 @@ uint32_t gen_below(uint32_t n); /* 0 to n - 1 */
 int gen_chance(unsigned percent);
 
 /* A small odd card: equal exits, graphs that nobody reads, observable graphs with readers, and reads
- * of the same graph along several ways. */
+ * of the same graph along several ways. Half of all cards have inverted reads, a quarter of their reads or more. */
 void gen_small_card(struct input *in, unsigned most_inputs);
 
 /* A card at a limit, or one beyond it. Shapes go round with the number. */

@@ -24,7 +24,7 @@ static const struct {
                      { "marks long", 800 }, { "tallies long", 800 },      { "leftover in marks", 1600 },  { "leftover in tallies", 1600 } };
 
 static struct {
-    unsigned limits, limits_accepted, cards_accepted;
+    unsigned limits, limits_accepted, cards_accepted, inverted; /* accepted with an inverted read */
     unsigned odd_card, odd_vectors, odd_buffer, short_buffer, long_buffer;
     unsigned lists[4]; /* of 0, 1, 65,535 and 65,536 vectors */
     unsigned grade[GRADED];
@@ -44,6 +44,15 @@ static size_t faults_of(const struct asked *a)
 {
     uint8_t numbers[20];
     return brute_check(a->card, a->card_len, numbers, sizeof numbers) ? 0 : word_at(numbers, 4);
+}
+
+/* Of a right card: whether a read (kind 3) of it is inverted. */
+static int has_inverted(const struct asked *a)
+{
+    for (size_t i = 0; i < a->card_len / 4; i++)
+        if (word_at(a->card, i) >> 16 == 0x6001)
+            return 1;
+    return 0;
 }
 
 /* A tally is 0 exactly where the mark is that no vector catches the fault. */
@@ -117,8 +126,10 @@ static void one_call(struct asked *a, enum call call, const struct input *in, si
         count_room(tallies_room, words);
     uint64_t answer = compare(a, room, tallies_room);
     int right = answer >> 32 == 0 || answer >> 32 == 12;
-    if (call == CHECK && right)
+    if (call == CHECK && right) {
         total.cards_accepted++;
+        total.inverted += (unsigned)has_inverted(a);
+    }
     if (call == GRADE && right)
         take_grade(a, answer, room, tallies_room);
 }
@@ -193,6 +204,8 @@ static int reached_too_little(void)
 {
     int few = too_few("inputs", compared.inputs, 20000) + too_few("accepted cards at the limits", total.limits_accepted, 100);
     few += too_few("accepted cards", 3 * total.cards_accepted, compared.inputs);
+    few += too_few("accepted cards with an inverted read", 5 * total.inverted, 2 * total.cards_accepted);
+    few += too_few("accepted cards without one", 5 * (total.cards_accepted - total.inverted), 2 * total.cards_accepted);
     few += too_few("calls that are done", 3 * compared.done, compared.calls);
     few += too_few("leftovers in cards", total.odd_card, 500) + too_few("leftovers in vectors", total.odd_vectors, 500);
     few += too_few("leftovers in buffers", total.odd_buffer, 5000) + too_few("short buffers", total.short_buffer, 5000);
@@ -200,13 +213,14 @@ static int reached_too_little(void)
         few += too_few("one refusal", compared.refusals[r], 20);
     for (int i = 0; i < GRADED; i++)
         few += too_few(grades[i].name, total.grade[i], grades[i].least);
-    return few + too_few("caught faults of leads", compared.caught_pairs, 3000);
+    return few + too_few("caught faults of leads", compared.caught_pairs[0], 3000)
+           + too_few("caught faults of leads, crossed over", compared.caught_pairs[1], 1000);
 }
 
 static void report(void)
 {
-    printf("host: %u inputs, %u cards accepted; of them at the limits or one beyond %u, %u accepted; %u calls, %u done\n",
-           compared.inputs, total.cards_accepted, total.limits, total.limits_accepted, compared.calls, compared.done);
+    printf("host: %u inputs, %u cards accepted, %u with inverted reads; at the limits or one beyond %u inputs, %u accepted; %u calls, %u done\n",
+           compared.inputs, total.cards_accepted, total.inverted, total.limits, total.limits_accepted, compared.calls, compared.done);
     printf("host: refusals");
     for (unsigned r = 1; r <= 12; r++)
         printf(" %u:%u", r, compared.refusals[r]);
@@ -216,7 +230,8 @@ static void report(void)
     for (int i = 0; i < GRADED; i++)
         printf("%s %s %u", i ? "," : "", grades[i].name, total.grade[i]);
     printf("\nhost: lists of 0, 1, 65535, 65536 vectors: %u %u %u %u\n", total.lists[0], total.lists[1], total.lists[2], total.lists[3]);
-    printf("host: %u faults of leads as their readers', %u of them caught\n", compared.pairs, compared.caught_pairs);
+    printf("host: %u faults of leads as their readers'; %u caught at a direct read, %u at an inverted one\n", compared.pairs,
+           compared.caught_pairs[0], compared.caught_pairs[1]);
     printf("host: %u differ\n", compared.differ);
 }
 

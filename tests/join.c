@@ -237,7 +237,8 @@ static int reached_too_little(void)
             few += too_few("leftovers in one part", total.odd[part][odd], 20);
     for (int beyond = 0; beyond < 2; beyond++)
         few += too_few("joined cards at a limit", total.graphs[beyond], 5) + too_few("joined cards at a limit", total.nodes[beyond], 5);
-    return few + too_few("gradings", total.gradings, 1000) + too_few("caught faults of leads", compared.caught_pairs, 3000);
+    return few + too_few("gradings", total.gradings, 1000) + too_few("caught faults of leads", compared.caught_pairs[0], 3000)
+           + too_few("caught faults of leads, crossed over", compared.caught_pairs[1], 1000);
 }
 
 static void report(void)
@@ -262,7 +263,8 @@ static void report(void)
                total.odd[part][2], total.odd[part][3]);
     printf("\njoin: with 1024 graphs %u, 1025 %u; with 4096 nodes %u, 4097 %u\n", total.graphs[0], total.graphs[1], total.nodes[0],
            total.nodes[1]);
-    printf("join: %u faults of leads as their readers', %u of them caught\n", compared.pairs, compared.caught_pairs);
+    printf("join: %u faults of leads as their readers'; %u caught at a direct read, %u at an inverted one\n", compared.pairs,
+           compared.caught_pairs[0], compared.caught_pairs[1]);
     printf("join: %u differ\n", compared.differ);
 }
 

@@ -33,6 +33,9 @@ starred-hold =
     also (refl, refl, refl, refl, refl, refl, refl, refl)
     also (refl, refl, refl, refl, refl, refl, refl, refl, refl)
     also (refl, refl, refl, refl, refl, refl, refl, refl, refl)
+    also (refl, refl, refl)
+    also (refl, refl, refl, refl, refl, refl, refl, refl)
+    also (refl, refl, refl, refl, refl, refl, refl, refl, refl)
 
 pub leads-hold : Leads
 unfolding checkedWith answerTold replyTold replied written valuesTests changeTests criticalTests gradeTests vectorVerdict listVerdict

@@ -22,6 +22,10 @@ akers = 0x00000000 ∷ 0x00000000 ∷ 0x00000000 ∷ 0x40000003 ∷ 0x60000000 �
 abbrev pub countsAkers : Counts
 countsAkers = record { inputs = 3; graphs = 4; nodes = 3; observable = 1; faults = 14 }
 
+-- the same with an inverter: node 1 reads B inverted, and has its exits the other way round
+abbrev pub inverter : List ℕ
+inverter = 0x00000000 ∷ 0x00000000 ∷ 0x00000000 ∷ 0x40000003 ∷ 0x60000000 ∷ 0x8000C001 ∷ 0x60010001 ∷ 0x80000004 ∷ 0x60000002 ∷ 0x80000001 ∷ []
+
 abbrev pub akersF : Bool → Bool → Bool → Bool
 akersF A B C = A || (not B && C)
 
@@ -99,6 +103,32 @@ starred =
       leftOut = 8 ∷ 9 ∷ [];
       marks = by1 ∷ none ∷ by1 ∷ none ∷ by1 ∷ none ∷ by1 ∷ by0 ∷ by1 ∷ none ∷ by1 ∷ by0 ∷ [];
       tallies = 1 ∷ 0 ∷ 1 ∷ 0 ∷ 1 ∷ 0 ∷ 1 ∷ 1 ∷ 1 ∷ 0 ∷ 1 ∷ 1 ∷ [];
+    })
+    -- without a star: an inverted read (document 02). The card is the same function,
+    ∷ function (record { card = inverter; counts = countsAkers; under = eight; graph = 3; computes = λ i. akersF (i 0) (i 1) (i 2) })
+    -- and all is as in the fourth row but for node 1, whose decision is 1 where B is 0: stuck at its 0-exit it is caught, for its 1-exit there
+    ∷ case
+    (record {
+      card = inverter;
+      counts = countsAkers;
+      under = 0xA0000004 ∷ [];
+      values = 0 ∷ 0 ∷ 1 ∷ 1 ∷ [];
+      changes = (0 ∷ []) ∷ (1 ∷ 3 ∷ []) ∷ (2 ∷ 3 ∷ []) ∷ (3 ∷ []) ∷ [];
+      caught = 2 ∷ 4 ∷ 9 ∷ 10 ∷ 12 ∷ [];
+      critical = 0 ∷ 1 ∷ 1 ∷ [];
+    })
+    -- The inputs are leads. The pairing crosses over at the inverted read of B, whose faults 8 and 9 go with 3 and 2 of node 1; those of A and C, 6, 7, 10
+    -- and 11, go with 0, 1, 4 and 5.
+    ∷ grading
+    (record {
+      card = inverter;
+      counts = countsAkers;
+      under = 0xA0000004 ∷ 0xA0000006 ∷ [];
+      marked = 6;
+      total = 8;
+      leftOut = 6 ∷ 7 ∷ 8 ∷ 9 ∷ 10 ∷ 11 ∷ [];
+      marks = none ∷ by1 ∷ by0 ∷ by1 ∷ by0 ∷ none ∷ none ∷ by1 ∷ by1 ∷ by0 ∷ by0 ∷ none ∷ by0 ∷ by1 ∷ [];
+      tallies = 0 ∷ 1 ∷ 1 ∷ 1 ∷ 1 ∷ 0 ∷ 0 ∷ 1 ∷ 1 ∷ 1 ∷ 1 ∷ 0 ∷ 1 ∷ 1 ∷ [];
     })
     ∷ []
 

@@ -8,12 +8,12 @@ use lib.ListN.{length, getD, set}
 use lib.Dec.{eqb}
 use Rattle.lists.specs.Counting.{choose}
 use Rattle.lists.proofs.Tests.{and-none}
-use Rattle.word32.specs.Fields.{readGraph, exitOf}
+use Rattle.word32.specs.Fields.{exitOf}
 use Rattle.answers.specs.declared.Counts.{Counts}
-use Rattle.layout.specs.Layout.{first, size, reads, exits, decided, decision}
+use Rattle.layout.specs.Layout.{first, size, reads, exits, decision}
 use Rattle.layout.specs.Shape.{Shape}
 use Rattle.layout.proofs.Firsts.{node-below, decides-bit}
-use Rattle.layout.specs.Tables.{Ready}
+use Rattle.layout.specs.Tables.{Decided, Ready}
 use Rattle.layout.proofs.Places.{walkable, first-is, decision-is, exit-is}
 use Rattle.value.specs.Settings.{good}
 use Rattle.value.specs.Values.{follow, nodeValue}
@@ -37,10 +37,10 @@ swept-bits {ws} {x} a p = record { long = p .long; bit = λ g h. rw (p .graphs g
 
 -- and so is a node's decision by them
 pub read-bit : {ws firsts xs : List ℕ} {c : Counts} (y : Ready ws c firsts) → Bits c xs → {g k f : ℕ} → g < c .graphs → k < size ws g → f ≡ getD firsts g 0
-    → {d : ℕ} → d ≡ decided (getD ws (g + 1 + 2 * (f + k)) 0) (getD xs (c .nodes + readGraph (getD ws (g + 1 + 2 * (f + k)) 0)) 0) → d < 2
+    → {d : ℕ} → Decided ws (g + 1 + 2 * (f + k)) xs (c .nodes) d → d < 2
 read-bit {ws} {firsts} {xs} {c} y b {g} {k} h l e q =
-    rw (decision-is (walkable y h) l e (λ r. getD xs (c .nodes + r) 0) xs (c .nodes) q refl)
-    (decides-bit ws g k _ (b .bit (reads ws g k) (omega (arith, y .shape .reads-lower g h k l))))
+    let r = b .bit (reads ws g k) (omega (arith, y .shape .reads-lower g h k l)) in
+    rw (decision-is (walkable y h) l e (λ r. getD xs (c .nodes + r) 0) xs (c .nodes) q refl r) (decides-bit ws g k _ r)
 
 -- what is caught at local node k of graph g
 module _ {ws : List ℕ} {c : Counts} (a : Shape ws c) (x : List ℕ) {g k : ℕ} (h : g < c .graphs) (l : k < size ws g) where
@@ -75,10 +75,10 @@ module _ {ws x firsts values : List ℕ} {c : Counts} (y : Ready ws c firsts) (p
         let r = y .shape .exits-later g h k d i l z in
         ap (λ (n : ℕ). getD values (n + i) 0) (first-is (walkable y h) e) ∙ p .nodes g i h (r .1))
 
-    pub decision-good : {d : ℕ} → d ≡ decided (getD ws (g + 1 + 2 * (f + k)) 0) (getD values (c .nodes + readGraph (getD ws (g + 1 + 2 * (f + k)) 0)) 0)
-        → d ≡ decision ws (goodValue ws c x) g k
+    pub decision-good : {d : ℕ} → Decided ws (g + 1 + 2 * (f + k)) values (c .nodes) d → d ≡ decision ws (goodValue ws c x) g k
     decision-good q =
-        decision-is (walkable y h) l e (goodValue ws c x) values (c .nodes) q (p .graphs (reads ws g k) (omega (arith, y .shape .reads-lower g h k l)))
+        let r : reads ws g k < c .graphs = omega (arith, y .shape .reads-lower g h k l) in
+        decision-is (walkable y h) l e (goodValue ws c x) values (c .nodes) q (p .graphs (reads ws g k) r) (good-bit (y .shape) x (reads ws g k) r)
 
     pub there-is : {d r : ℕ} → d ≡ decision ws (goodValue ws c x) g k
         → r ≡ choose (not (eqb (follow (λ i. getD values (f + i) 0) (exitOf (getD ws (g + 2 + 2 * (f + k)) 0) 0))
@@ -99,7 +99,7 @@ module _ {ws x firsts values : List ℕ} {c : Counts} (y : Ready ws c firsts) (p
     -- THE PATH AT ITS NODE k: the node's store, where the exit taken is a constant, and where it is a later node
     module _ {k f v b e : ℕ} {xs ys zs : List ℕ} (l : k < size ws g) (u : f ≡ getD firsts g 0) (q : critical ws c x g ≡ true)
         (s : Along ws c x g k xs ys) (d : Due ws c x g k (k + 2)) (m : c .nodes ≤ length ys)
-        (o : b ≡ decided (getD ws (g + 1 + 2 * (f + k)) 0) (getD values (c .nodes + readGraph (getD ws (g + 1 + 2 * (f + k)) 0)) 0))
+        (o : Decided ws (g + 1 + 2 * (f + k)) values (c .nodes) b)
         (r : v ≡ choose (not (eqb (follow (λ i. getD values (f + i) 0) (exitOf (getD ws (g + 2 + 2 * (f + k)) 0) 0))
         (follow (λ i. getD values (f + i) 0) (exitOf (getD ws (g + 2 + 2 * (f + k)) 0) 1)))) (1 - b) 2)
         (z : zs ≡ set ys (f + k) v) (t : e ≡ exitOf (getD ws (g + 2 + 2 * (f + k)) 0) b) where

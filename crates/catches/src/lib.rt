@@ -49,8 +49,8 @@ fn catch_path(card: &[u32], c: Counts, firsts: &[u32], values: &[u32], g: usize,
         let j = first + k;
         let d = layout::decision(card, g, j, values, c.nodes);
         let v = caught_there(card, values, g, first, j, d);
-        lists::put(caught, j, v);
         let e = layout::exit_at(card, g, j, d);
+        lists::put(caught, j, v);
         if e < 2 {
             return;
         }

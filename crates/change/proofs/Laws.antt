@@ -8,11 +8,11 @@ use lib.ListN.{length, getD, set, length-set}
 use lib.Seq.{getD-set-same, getD-set-other}
 use Rattle.lists.specs.Tables.{over}
 use Rattle.lists.proofs.Tables.{over-at, length-over}
-use Rattle.word32.specs.Fields.{readGraph, exitOf}
+use Rattle.word32.specs.Fields.{exitOf}
 use Rattle.answers.specs.declared.Counts.{Counts}
-use Rattle.layout.specs.Layout.{size, reads, decided}
+use Rattle.layout.specs.Layout.{size, reads}
 use Rattle.layout.specs.Shape.{Shape}
-use Rattle.layout.specs.Tables.{Walkable}
+use Rattle.layout.specs.Tables.{Decided, Walkable}
 use Rattle.layout.proofs.Places.{decision-is, exit-later}
 use Rattle.value.specs.Settings.{good}
 use Rattle.value.specs.Values.{follow, walk, taken, graph, value}
@@ -21,9 +21,9 @@ use Rattle.value.proofs.Walk.{node-law}
 use Rattle.value.proofs.Values.{graph-lower, value-input, value-bit}
 use Rattle.value.proofs.Run.{taken-is}
 use Rattle.rules.specs.Rules.{flipped}
-use Rattle.rules.proofs.Changes.{flipped-below, flipped-here, flipped-gives}
+use Rattle.rules.proofs.Changes.{flipped-below, flipped-here, flipped-gives, flipped-bit}
 use Rattle.sweep.specs.Swept.{Swept}
-use Rattle.change.specs.Flips.{Has, Between}
+use Rattle.change.specs.Flips.{BitsBelow, Has, Between}
 
 follow-constant : (f : ℕ → ℕ) (e : ℕ) → e < 2 → follow f e ≡ e
 follow-constant f zero b = refl
@@ -32,25 +32,26 @@ follow-constant f (suc (suc e)) b = absurd (omega arith)
 
 -- one graph walked with the values of a buffer: local node k of graph h, whose first node the table gives as f, has decision d and takes exit e
 module _ {ws firsts : List ℕ} {h k f : ℕ} (y : Walkable ws firsts h) (l : k < size ws h) (p : f ≡ getD firsts h 0) (xs : List ℕ) {d e : ℕ}
-    (q : d ≡ decided (getD ws (h + 1 + 2 * (f + k)) 0) (getD xs (0 + readGraph (getD ws (h + 1 + 2 * (f + k)) 0)) 0))
+    (q : Decided ws (h + 1 + 2 * (f + k)) xs 0 d)
     (z : e ≡ exitOf (getD ws (h + 2 + 2 * (f + k)) 0) d) where
   abbrev t : ℕ → ℕ
   t = taken ws good (λ g. getD xs g 0) h
 
-  law : walk t (size ws h) k ≡ follow (walk t (size ws h)) e
-  law =
+  law : BitsBelow h xs → walk t (size ws h) k ≡ follow (walk t (size ws h)) e
+  law bits =
       let b : 0 + reads ws h k ≡ reads ws h k = omega arith in
+      let d-is = decision-is y l p (λ g. getD xs g 0) xs 0 q (ap (λ (n : ℕ). getD xs n 0) b) (bits (reads ws h k) (y .lower k l)) in
       node-law t (size ws h) (λ i j b u. y .later i _ j b u) k l
-      ∙ ap (follow (walk t (size ws h))) (taken-is y l p good (λ g. getD xs g 0) (decision-is y l p (λ g. getD xs g 0) xs 0 q (ap (λ (n : ℕ). getD xs n 0) b)) z)
+      ∙ ap (follow (walk t (size ws h))) (taken-is y l p good (λ g. getD xs g 0) d-is z)
 
-  pub walk-ends : e < 2 → e ≡ walk t (size ws h) k
-  walk-ends b = sym (law ∙ follow-constant (walk t (size ws h)) e b)
+  pub walk-ends : e < 2 → BitsBelow h xs → e ≡ walk t (size ws h) k
+  walk-ends b bits = sym (law bits ∙ follow-constant (walk t (size ws h)) e b)
 
-  pub walk-goes : 2 ≤ e → (k < e - 2) × (e - 2 < size ws h) × (walk t (size ws h) k ≡ walk t (size ws h) (e - 2))
+  pub walk-goes : 2 ≤ e → (k < e - 2) × (e - 2 < size ws h) × (BitsBelow h xs → walk t (size ws h) k ≡ walk t (size ws h) (e - 2))
   walk-goes b =
       let i : e ≡ suc (suc (e - 2)) = omega arith in
       let j = exit-later y l p d z b in
-      (j .0, j .1, law ∙ ap (follow (walk t (size ws h))) i)
+      (j .0, j .1, λ bits. law bits ∙ ap (follow (walk t (size ws h))) i)
 
 -- the change walk of graph g
 module _ {ws : List ℕ} {c : Counts} (a : Shape ws c) (x : List ℕ) (g : ℕ) where
@@ -89,12 +90,13 @@ module _ {ws : List ℕ} {c : Counts} (a : Shape ws c) (x : List ℕ) (g : ℕ) 
           onward = λ i t b. s .onward i (omega arith) b;
         }
 
-    pub flip-output : c .inputs ≤ h → {ys : List ℕ} {n : ℕ} → n ≡ walk (taken ws good (λ i. getD xs i 0) h) (size ws h) 0 → ys ≡ set xs h n
+    pub flip-output : c .inputs ≤ h → {ys : List ℕ} {n : ℕ} → (BitsBelow h xs → n ≡ walk (taken ws good (λ i. getD xs i 0) h) (size ws h) 0) → ys ≡ set xs h n
         → Between w v (c .graphs) (h + 1) ys
     unfolding graph
     flip-output j {ys} {n} d z =
+        let bits : BitsBelow h xs = λ i o. rw (s .below i o (omega arith)) (flipped-bit a x g i (omega arith) (omega arith)) in
         let e = a .output h m j .0 in
-        let n-is : graph ws (c .nodes) good x (λ i. getD xs i 0) h ≡ n = rw e (sym d) in
+        let n-is : graph ws (c .nodes) good x (λ i. getD xs i 0) h ≡ n = rw e (sym (d bits)) in
         let q : n ≡ w h =
         sym (flipped-gives a x g h (omega arith) m (λ z. omega arith)
         ∙ graph-lower a good x w (λ i. getD xs i 0) h m (λ i o. sym (s .below i o (omega arith))) ∙ n-is) in

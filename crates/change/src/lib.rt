@@ -9,24 +9,23 @@ ghost use Rattle.layout.specs.Tables.{Ready, Walkable};
 ghost use Rattle.value.specs.Settings.{good};
 ghost use Rattle.value.specs.Values.{walk, taken, value};
 ghost use Rattle.rules.specs.Rules.{flipped};
-ghost use Rattle.change.specs.Flips.{Has, Between};
+ghost use Rattle.change.specs.Flips.{BitsBelow, Has, Between};
 use answers::Counts;
 
-// The value of output graph h where the graphs have the values of the buffer: its walk from the entrance.
+// The value of output graph h where the graphs have the values of the buffer, 0 or 1 each: its walk from the entrance.
 pub fn walk_graph(card: &[u32], firsts: &[u32], h: usize, flips: &[u32]) -> u32
     requires { ⌜ Walkable (now card) (now firsts) h × (0 < size (now card) h) × (h ≤ length (now flips)) ⌝ }
-    ensures { λ r. ⌜ r ≡ walk (taken (now (card .entry)) good (λ g. getD (now (flips .entry)) g 0) h) (size (now (card .entry)) h) 0 ⌝ }
+    ensures { λ r. ⌜ (BitsBelow h (now (flips .entry)) → r ≡ walk (taken (now (card .entry)) good (λ g. getD (now (flips .entry)) g 0) h) (size (now (card .entry)) h) 0) ⌝ }
 {
     let first = layout::first_node(firsts, h);
-    let mut k = 0;
+    let mut e = 2;
     loop {
-        let j = first + k;
+        let j = first + (e - 2);
         let d = layout::decision(card, h, j, flips, 0);
-        let e = layout::exit_at(card, h, j, d);
+        e = layout::exit_at(card, h, j, d);
         if e < 2 {
             return e as u32;
         }
-        k = e - 2;
     }
 }
 

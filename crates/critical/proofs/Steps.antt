@@ -23,7 +23,7 @@ use Rattle.value.specs.Values.{walk, taken, value}
 use Rattle.rules.specs.Rules.{flipped, listed}
 use Rattle.rules.proofs.Changes.{flipped-below, flipped-here, good-bit}
 use Rattle.rules.proofs.Stopped.{stopped-upto, stopped-beyond}
-use Rattle.change.specs.Flips.{Has}
+use Rattle.change.specs.Flips.{BitsBelow, Has}
 use Rattle.change.proofs.Laws.{flip-input, flip-output}
 use Rattle.critical.specs.Walking.{listFrom, dueFrom, Hidden, Lists, Entries, Upto, Walking, Stepped, ends}
 use Rattle.critical.proofs.Ends.{reads-good, stops}
@@ -229,7 +229,7 @@ module _ {ws x t : List ℕ} {c : Counts} (y : Tabled ws c t) {g h n : ℕ} {xs 
       same-step (sym (b .below h (omega arith) m) ∙ s .upto .between .onward h (omega arith) m)
 
   -- graph h walked again gives r, and had `own`
-  module _ (i : c .inputs ≤ h) {r own : ℕ} (d : r ≡ walk (taken ws good (λ i. getD xs i 0) h) (size ws h) 0) (o : own ≡ getD xs h 0) where
+  module _ (i : c .inputs ≤ h) {r own : ℕ} (d : BitsBelow h xs → r ≡ walk (taken ws good (λ i. getD xs i 0) h) (size ws h) 0) (o : own ≡ getD xs h 0) where
     flipped-is : r ≡ flipped ws c x g h
     flipped-is =
         sym (getD-set-same xs h r 0 (omega (arith, s .upto .between .long, m)))

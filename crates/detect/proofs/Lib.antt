@@ -1,3 +1,4 @@
 -- The laws that proofs of functions and of other laws cite, each stated once.
 pub mod Detects
 pub mod Grading
+pub mod Direct

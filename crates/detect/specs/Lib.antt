@@ -1,2 +1,3 @@
 pub mod Detects
 pub mod Grading
+pub mod Direct

@@ -1,5 +1,5 @@
--- The check's definition on document 01's examples of refusals 1 to 9, in the order of its table, and on words that break two rules at once, by
--- computing. Assumes nothing.
+-- The check's definition on document 01's examples of refusals 1 to 9, in the order of its table, on words that break two rules at once, and on inverted
+-- reads, by computing. Assumes nothing.
 use Prim.Native.Nat.{ℕ}
 use mathlib.Core.List.{List, [], _∷_, map}
 use mathlib.Core.Path.{_≡_, refl}
@@ -40,13 +40,23 @@ abbrev pub twice-broken : List Case
 twice-broken =
     record { card = 0 ∷ 0x40000001 ∷ 0x60000000 ∷ 0x80000001 ∷ 0x00000001 ∷ []; told = refusal 4 4 }
     ∷ record { card = 0 ∷ 0x20010000 ∷ []; told = refusal 5 1 }
-    ∷ record { card = 0 ∷ 0x40000001 ∷ 0x60010001 ∷ 0x80000001 ∷ []; told = refusal 5 2 }
+    ∷ record { card = 0 ∷ 0x40000001 ∷ 0x60020001 ∷ 0x80000001 ∷ []; told = refusal 5 2 }
     ∷ record { card = 0 ∷ 0x40000001 ∷ 0x60000000 ∷ 0x90000002 ∷ []; told = refusal 5 3 }
+    ∷ []
+
+-- bit 16 of a read is free (document 02), and in a header it is not; bits 17 and 28 of a read are not either
+abbrev pub inverted-read : List Case
+inverted-read =
+    record { card = 0 ∷ 0x40000001 ∷ 0x60010000 ∷ 0x80000001 ∷ []; told = result (1 ∷ 2 ∷ 1 ∷ 1 ∷ 6 ∷ []) }
+    ∷ record { card = 0 ∷ 0x40000001 ∷ 0x60020000 ∷ 0x80000001 ∷ []; told = refusal 5 2 }
+    ∷ record { card = 0 ∷ 0x40000001 ∷ 0x70010000 ∷ 0x80000001 ∷ []; told = refusal 5 2 }
+    ∷ record { card = 0 ∷ 0x40000001 ∷ 0x60010001 ∷ 0x80000001 ∷ []; told = refusal 6 2 }
+    ∷ record { card = 0 ∷ 0x40010001 ∷ 0x60000000 ∷ 0x80000001 ∷ []; told = refusal 5 1 }
     ∷ []
 
 abbrev pub answered : Case → Case
 answered c = record { card = c .card; told = checkTold (c .card) }
 
-pub examples : (map answered table ≡ table) × (map answered twice-broken ≡ twice-broken)
+pub examples : (map answered table ≡ table) × (map answered twice-broken ≡ twice-broken) × (map answered inverted-read ≡ inverted-read)
 unfolding checkedWith answerTold
-examples = (refl, refl)
+examples = (refl, refl, refl)

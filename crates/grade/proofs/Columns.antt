@@ -17,7 +17,8 @@ use Rattle.form.specs.Check.{checked}
 use Rattle.form.proofs.Checked.{check-accepts}
 use Rattle.cardtables.specs.Stems.{readBy, hasStem}
 use Rattle.cardtables.proofs.Stems.{reads-graph}
-use Rattle.rules.proofs.Leads.{lead-mark, lead-tally}
+use Rattle.rules.specs.Leads.{pairedExit}
+use Rattle.rules.proofs.Leads.{paired-bit, lead-mark, lead-tally}
 use Rattle.detect.specs.Grading.{mark, tally, marked}
 use Rattle.detect.proofs.Grading.{unmarked-exactly}
 use Rattle.grade.specs.Calls.{allTests, gradeReply, marksBuffer, talliesBuffer}
@@ -46,12 +47,12 @@ module _ (ws xs b d : List ℕ) {n : ℕ} (done : gradeReply ws xs b d ≡ Done 
       let u = unmarked-exactly ws c xs f in
       (λ z. mark-left f h ∙ u .0 (sym (tally-left f h) ∙ z), λ z. tally-left f h ∙ u .1 (sym (mark-left f h) ∙ z))
 
-  -- graph g has no stem, and node j reads it: the graph stuck at v and the node stuck at its v-exit have equal words
+  -- graph g has no stem, and node j reads it: the graph stuck at v and the node stuck at the exit that goes with it have equal words
   pub leads-agree : (g j v : ℕ) → hasStem ws c g ≡ false → j < c .nodes → readBy ws c j ≡ g → v < 2
-      → (getD (marksBuffer ws xs b d) (2 * (c .nodes + g) + v) 0 ≡ getD (marksBuffer ws xs b d) (2 * j + v) 0)
-      × (getD (talliesBuffer ws xs b d) (2 * (c .nodes + g) + v) 0 ≡ getD (talliesBuffer ws xs b d) (2 * j + v) 0)
+      → (getD (marksBuffer ws xs b d) (2 * (c .nodes + g) + v) 0 ≡ getD (marksBuffer ws xs b d) (2 * j + pairedExit ws c j v) 0)
+      × (getD (talliesBuffer ws xs b d) (2 * (c .nodes + g) + v) 0 ≡ getD (talliesBuffer ws xs b d) (2 * j + pairedExit ws c j v) 0)
   leads-agree g j v s l r h =
       let a = check-accepts ws 0 c e .shape in
       let m : 2 * (c .nodes + g) + v < c .faults = omega (arith, a .all-faults, r, reads-graph a j l) in
-      let n : 2 * j + v < c .faults = omega (arith, a .all-faults) in
+      let n : 2 * j + pairedExit ws c j v < c .faults = omega (arith, a .all-faults, paired-bit ws c j v h) in
       (mark-left _ m ∙ lead-mark a s l r v h xs ∙ sym (mark-left _ n), tally-left _ m ∙ lead-tally a s l r v h xs ∙ sym (tally-left _ n))

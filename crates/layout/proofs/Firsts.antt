@@ -1,17 +1,21 @@
--- Where the graphs and nodes of a card stand: each node in one graph only, and all inside the words. Assumes nothing.
-use Prim.Native.Nat.{ℕ, zero, suc, _+_, _-_, _*_, _<_, _≤_}
-use mathlib.Core.Path.{_≡_, refl, ap}
+-- Where the graphs and nodes of a card stand: each node in one graph only, and all inside the words; and what a node decides. Assumes nothing.
+use Prim.Native.Nat.{ℕ, zero, suc, _+_, _-_, _*_, _/_, _^_, _<_, _≤_}
+use mathlib.Core.Path.{_≡_, refl, ap, _∙_}
 use mathlib.Core.List.{List}
-use mathlib.Core.Bool.{true, false}
+use mathlib.Core.Bool.{Bool, true, false}
 use native.Mathlib.Omega.{arith}
-use native.Mathlib.Nat.{add-zero, add-suc}
+use native.Mathlib.Nat.{add-zero, add-suc, mod-lt, zero-lt-suc}
 use native.Mathlib.Decide.{ℕ-discrete, decLt}
 use native.Mathlib.Numerals.{add-one}
 use lib.ListN.{length, getD}
+use lib.Bits.{bitXor, xor-zero-r}
+use lib.Dec.{eqb}
 use borrow.Author.Tests.{eqb-true, ne-eqb}
-use Rattle.word32.specs.Fields.{kind, nodeCount}
+use Rattle.lists.specs.Counting.{choose}
+use Rattle.lists.proofs.Tests.{choose-bit}
+use Rattle.word32.specs.Fields.{kind, nodeCount, readInverted}
 use Rattle.answers.specs.declared.Counts.{Counts}
-use Rattle.layout.specs.Layout.{first, header, isInput, observable, size, decided, decides}
+use Rattle.layout.specs.Layout.{first, header, isInput, observable, size, decided, inverts, decides}
 use Rattle.layout.specs.Shape.{Shape}
 
 module _ (ws : List ℕ) where
@@ -59,15 +63,41 @@ module _ {ws : List ℕ} {c : Counts} (s : Shape ws c) where
   pub node-below : (g k : ℕ) → g < c .graphs → k < size ws g → first ws g + k < c .nodes
   node-below g k l h = rw (s .nodes-in) at (first-above ws g (c .graphs) k l h)
 
--- a node's decision is 0 or 1
+-- A DECISION at the read w is the value read where the bit is clear, and one minus that where it is set: of a value that is 0 or 1, the exclusive or of both
+pub decided-xor : (w r : ℕ) → r < 2 → bitXor r (readInverted w) ≡ decided w r
+unfolding decided
+decided-xor w r h = go r (readInverted w) h (mod-lt (w / 2 ^ 16) (zero-lt-suc 1))
+  where
+    go : (r b : ℕ) → r < 2 → b < 2 → bitXor r b ≡ choose (eqb b 1) (1 - r) r
+    go r zero h l = xor-zero-r r
+    go zero (suc zero) h l = refl
+    go (suc zero) (suc zero) h l = refl
+    go (suc (suc r)) (suc zero) h l = absurd (omega arith)
+    go r (suc (suc b)) h l = absurd (omega arith)
+
+-- the same of a node
+module _ (ws : List ℕ) (g k r : ℕ) where
+  pub decides-by : decides ws g k r ≡ choose (inverts ws g k) (1 - r) r
+  unfolding inverts decides decided
+  decides-by = refl
+
+  pub decides-direct : inverts ws g k ≡ false → decides ws g k r ≡ r
+  decides-direct e = decides-by ∙ rw e
+
+  pub decides-inverted : inverts ws g k ≡ true → decides ws g k r ≡ 1 - r
+  decides-inverted e = decides-by ∙ rw e
+
+-- it is 0 or 1
 pub decides-bit : (ws : List ℕ) (g k r : ℕ) → r < 2 → decides ws g k r < 2
-unfolding decides decided
-decides-bit ws g k r h = h
+decides-bit ws g k r h = rw (decides-by ws g k r) (choose-bit (inverts ws g k) (1 - r) r (omega arith) h)
 
 -- and where the graph that it reads has the other value, it is the other one
 pub decides-other : (ws : List ℕ) (g k r : ℕ) → decides ws g k (1 - r) ≡ 1 - decides ws g k r
-unfolding decides decided
-decides-other ws g k r = refl
+decides-other ws g k r = rw (decides-by ws g k r, decides-by ws g k (1 - r)) (go (inverts ws g k))
+  where
+    go : (b : Bool) → choose b (1 - (1 - r)) (1 - r) ≡ 1 - choose b (1 - r) r
+    go true = refl
+    go false = refl
 
 -- an input is not observable
 pub input-hidden : (ws : List ℕ) (g : ℕ) → isInput ws g ≡ true → observable ws g ≡ false

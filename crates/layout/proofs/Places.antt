@@ -6,14 +6,14 @@ use native.Mathlib.Omega.{arith}
 use native.Mathlib.Numerals.{add-one}
 use lib.ListN.{length, getD}
 use lib.Dec.{eqb}
-use Rattle.lists.specs.Tables.{over}
-use Rattle.lists.proofs.Tables.{over-at, length-over}
+use Rattle.lists.specs.Tables.{tab, over}
+use Rattle.lists.proofs.Tables.{length-tab, tab-at, over-at, length-over}
 use Rattle.word32.specs.Fields.{kind, readGraph, exitOf}
 use Rattle.answers.specs.declared.Counts.{Counts}
 use Rattle.layout.specs.Layout.{first, observable, size, reads, exits, decided, decides, decision}
 use Rattle.layout.specs.Shape.{Shape}
 use Rattle.layout.proofs.Firsts.{first-next, first-few, node-below}
-use Rattle.layout.specs.Tables.{Ready, Walkable}
+use Rattle.layout.specs.Tables.{Decided, Ready, Walkable}
 
 -- the exit at any decision but 0
 pub exit-one : (w d : ℕ) → (d ≡ 0 → ⊥) → exitOf w d ≡ exitOf w 1
@@ -32,6 +32,21 @@ made-ready {ws} {firsts} {c} ys s l e = record {
   long = rw e (rw (length-over (first ws) ys (c .graphs + 1) (omega arith)) l);
   table = λ g h. rw e (over-at (first ws) ys (c .graphs + 1) g (omega arith));
 }
+
+-- the first nodes themselves are such a table, for what goes on from a graph's first node
+abbrev pub ownTable : List ℕ → Counts → List ℕ
+ownTable ws c = tab (first ws) (c .graphs + 1)
+
+module _ {ws : List ℕ} {c : Counts} (s : Shape ws c) where
+  pub own-ready : Ready ws c (ownTable ws c)
+  own-ready = record {
+    shape = s;
+    long = rw (length-tab (first ws) (c .graphs + 1)) (omega arith);
+    table = λ g h. tab-at (first ws) (c .graphs + 1) g (omega arith);
+  }
+
+  pub own-first : {g f : ℕ} → g < c .graphs → f ≡ first ws g → f ≡ getD (ownTable ws c) g 0
+  own-first {g} h e = e ∙ sym (own-ready .table g (omega arith))
 
 module _ {ws firsts : List ℕ} {c : Counts} (y : Ready ws c firsts) where
   -- a graph has no more nodes than a card
@@ -93,13 +108,12 @@ module _ {ws firsts : List ℕ} {g : ℕ} (y : Walkable ws firsts g) where
     pub read-below : readGraph (getD ws (g + 1 + 2 * (f + k)) 0) < g
     read-below = rw (read-is refl) (y .lower k l)
 
-    -- THE DECISION, where the words of a buffer from `base` on are the values of the graphs, at least of the one read
-    pub decision-is : (v : ℕ → ℕ) (xs : List ℕ) (base : ℕ) {d : ℕ}
-        → d ≡ decided (getD ws (g + 1 + 2 * (f + k)) 0) (getD xs (base + readGraph (getD ws (g + 1 + 2 * (f + k)) 0)) 0)
-        → getD xs (base + reads ws g k) 0 ≡ v (reads ws g k) → d ≡ decision ws v g k
+    -- THE DECISION, where the words of a buffer from `base` on are the values of the graphs, at least of the one read, which is 0 or 1
+    pub decision-is : (v : ℕ → ℕ) (xs : List ℕ) (base : ℕ) {d : ℕ} → Decided ws (g + 1 + 2 * (f + k)) xs base d
+        → getD xs (base + reads ws g k) 0 ≡ v (reads ws g k) → v (reads ws g k) < 2 → d ≡ decision ws v g k
     unfolding decides
-    decision-is v xs base q u =
-        q ∙ ap (λ (n : ℕ). decided (getD ws (g + 1 + 2 * (f + k)) 0) (getD xs (base + n) 0)) (read-is refl)
+    decision-is v xs base q u b =
+        q (rw (read-is refl, u) b) ∙ ap (λ (n : ℕ). decided (getD ws (g + 1 + 2 * (f + k)) 0) (getD xs (base + n) 0)) (read-is refl)
         ∙ ap (λ (n : ℕ). decided (getD ws (g + 1 + 2 * (n + k)) 0) (getD xs (base + reads ws g k) 0)) (first-is e)
         ∙ ap (decides ws g k) u
 

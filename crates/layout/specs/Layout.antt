@@ -1,15 +1,15 @@
 -- Where an accepted card's graphs and nodes stand in its words. Assumes nothing.
-use Prim.Native.Nat.{ℕ, zero, suc, _+_, _*_}
+use Prim.Native.Nat.{ℕ, zero, suc, _+_, _-_, _*_}
 use mathlib.Core.List.{List}
 use mathlib.Core.Bool.{Bool}
 use lib.ListN.{getD}
 use lib.Dec.{ltb, eqb}
 use Rattle.lists.specs.Counting.{choose}
-use Rattle.word32.specs.Fields.{kind, nodeCount, readGraph, exitOf}
+use Rattle.word32.specs.Fields.{kind, nodeCount, readGraph, readInverted, exitOf}
 
--- the decision of a node whose read is the word w, where the graph that it reads has the value r
+-- the decision of a node whose read is the word w, where the graph that it reads has the value r: that value, or at an inverted read one minus it
 unfoldable pub decided : ℕ → ℕ → ℕ
-decided w r = r
+decided w r = choose (eqb (readInverted w) 1) (1 - r) r
 
 module _ (ws : List ℕ) where
   -- the number of the first node of graph g, before whose header stand g headers and two words a node
@@ -44,6 +44,11 @@ module _ (ws : List ℕ) where
   unfoldable pub exits : ℕ → ℕ → ℕ → ℕ
   unfolding first
   exits g k d = exitOf (getD ws (g + 2 + 2 * (first g + k)) 0) d
+
+  -- that its read is inverted
+  unfoldable pub inverts : ℕ → ℕ → Bool
+  unfolding first
+  inverts g k = eqb (readInverted (getD ws (g + 1 + 2 * (first g + k)) 0)) 1
 
   -- its decision where the graph that it reads has the value r, and where the graphs have the values v
   unfoldable pub decides : ℕ → ℕ → ℕ → ℕ

@@ -4,9 +4,9 @@ ghost use Prim.Native.Nat.{_+_, _*_, _-_, _≤_, _<_};
 ghost use lib.ListN.{length, getD};
 ghost use Rattle.lists.specs.Tables.{over};
 ghost use Rattle.word32.specs.Fields.{readGraph, exitOf};
-ghost use Rattle.layout.specs.Layout.{first, observable, decided};
+ghost use Rattle.layout.specs.Layout.{first, observable};
 ghost use Rattle.layout.specs.Shape.{Shape};
-ghost use Rattle.layout.specs.Tables.{Walkable};
+ghost use Rattle.layout.specs.Tables.{Decided, Walkable};
 use answers::Counts;
 
 // A word for each graph, and for each place, of any card.
@@ -92,13 +92,13 @@ pub fn graph_read(card: &[u32], g: usize, j: usize) -> usize
     word32::read_graph(lists::get(card, g + 1 + 2 * j))
 }
 
-// The decision of node j, of graph g, where graph r's value stands at base + r. Every walk takes a node's decision from here.
+// The decision of node j, of graph g, where graph r's value, 0 or 1, stands at base + r. Every walk takes a node's decision from here.
 pub fn decision(card: &[u32], g: usize, j: usize, values: &[u32], base: usize) -> u32
     requires { ⌜ (g + 1 + 2 * j < length (now card)) × (base + readGraph (getD (now card) (g + 1 + 2 * j) 0) < length (now values)) ⌝ }
-    ensures { λ r. ⌜ r ≡ decided (getD (now (card .entry)) (g + 1 + 2 * j) 0) (getD (now (values .entry)) (base + readGraph (getD (now (card .entry)) (g + 1 + 2 * j) 0)) 0) ⌝ }
+    ensures { λ r. ⌜ Decided (now (card .entry)) (g + 1 + 2 * j) (now (values .entry)) base r ⌝ }
 {
     let w = lists::get(card, g + 1 + 2 * j);
-    lists::get(values, base + word32::read_graph(w))
+    lists::get(values, base + word32::read_graph(w)) ^ word32::read_inverted(w)
 }
 
 // The exit of node j, of graph g, at a decision.

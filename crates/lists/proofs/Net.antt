@@ -1,7 +1,7 @@
 -- Nets: what a rule gives at g where the places before g have values v, and the list that grows along it. Assumes nothing.
 use Prim.Native.Nat.{ℕ, zero, suc, _+_, _-_, _<_}
 use mathlib.Core.Path.{_≡_, refl, sym, ap, _∙_}
-use mathlib.Core.List.{[]}
+use mathlib.Core.List.{[], _∷_, _++_}
 use native.Mathlib.Omega.{arith}
 use native.Mathlib.Nat.{add-zero, add-suc}
 use native.Mathlib.Decide.{ℕ-discrete}
@@ -10,7 +10,7 @@ use lib.Seq.{getD-at}
 use lib.Dec.{eqb}
 use borrow.Author.Tests.{eq-eqb, ne-eqb}
 use Rattle.lists.specs.Counting.{choose}
-use Rattle.lists.specs.Tables.{Net, at, grow}
+use Rattle.lists.specs.Tables.{Net, at, one-more, grow}
 
 abbrev pub Lower : ℕ → Net → Type 0
 Lower G b = (v w : ℕ → ℕ) (g : ℕ) → g < G → ((h : ℕ) → h < g → v h ≡ w h) → b v g ≡ b w g
@@ -54,6 +54,14 @@ module _ (b : Net) where
       ∙ grow-more g (suc g) (G - suc g) (omega arith)
       ∙ grow-at g
       ∙ lower (at (grow b g)) (at (grow b G)) g h (λ i l. sym (grow-more i g (G - g) l) ∙ ap (λ (n : ℕ). at (grow b n) i) e′)
+
+-- two nets that give the same grow the same list
+pub grow-same : (b b′ : Net) (G : ℕ) → ((v : ℕ → ℕ) (g : ℕ) → g < G → b v g ≡ b′ v g) → grow b G ≡ grow b′ G
+unfolding grow
+grow-same b b′ zero s = refl
+grow-same b b′ (suc G) s =
+    ap (one-more b G) (grow-same b b′ G (λ v g l. s v g (omega arith)))
+    ∙ ap (λ (r : ℕ). grow b′ G ++ (r ∷ [])) (s (at (grow b′ G)) G (omega arith))
 
 -- the net with graph g held at c
 abbrev pub held : Net → ℕ → ℕ → Net

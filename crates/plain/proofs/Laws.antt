@@ -7,13 +7,14 @@ use native.Mathlib.Decide.{ℕ-discrete}
 use lib.ListN.{getD, set, length-set}
 use lib.Seq.{getD-set-same, getD-set-other}
 use Rattle.word32.specs.Fields.{readGraph}
-use Rattle.layout.specs.Layout.{first, size, decided, decision}
+use Rattle.layout.specs.Layout.{first, size, decision}
 use Rattle.layout.proofs.Firsts.{one-place, node-below}
-use Rattle.layout.specs.Tables.{Ready}
+use Rattle.layout.specs.Tables.{Decided, Ready}
 use Rattle.layout.proofs.Places.{walkable, place-is, read-is, decision-is}
 use Rattle.testvectors.specs.Vectors.{bit}
 use Rattle.value.specs.Settings.{faulty}
-use Rattle.value.proofs.Values.{value-input, value-output}
+use Rattle.value.proofs.Settings.{faulty-keeps}
+use Rattle.value.proofs.Values.{value-input, value-output, value-bit}
 use Rattle.value.specs.Run.{Run, graphOf, nodeOf}
 use Rattle.plain.specs.Saved.{Saved, FoundNode, FoundGraph}
 
@@ -68,10 +69,11 @@ module _ (t : Run) {firsts : List ℕ} (y : Ready (t .card) (t .counts) firsts) 
 
     -- its decision, once the graph that it reads is found
     pub decision-found : {r v d : ℕ} {xs : List ℕ} → r ≡ readGraph (getD (t .card) (g + 1 + 2 * (f + k)) 0) → FoundGraph t r v xs
-        → d ≡ decided (getD (t .card) (g + 1 + 2 * (f + k)) 0) (getD xs (t .counts .nodes + readGraph (getD (t .card) (g + 1 + 2 * (f + k)) 0)) 0)
+        → Decided (t .card) (g + 1 + 2 * (f + k)) xs (t .counts .nodes) d
         → d ≡ decision (t .card) (graphOf t) g k
     decision-found {r} {v} {d} {xs} q w u =
         decision-is (walkable y h) l e (graphOf t) xs (t .counts .nodes) u (rw (read-is (walkable y h) l e q) at (w .there))
+        (value-bit (y .shape) (faulty (t .faults)) (t .vector) (faulty-keeps (t .faults)) _ (omega (arith, y .shape .reads-lower g h k l)))
 
   module _ {g : ℕ} (h : g < t .counts .graphs) where
     pub graph-known : {xs : List ℕ} {r : ℕ} → Saved t xs → r ≡ getD xs (t .counts .nodes + g) 0 → r < 2 → FoundGraph t g r xs

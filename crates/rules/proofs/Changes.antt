@@ -132,12 +132,15 @@ module _ {ws : List ℕ} {c : Counts} (a : Shape ws c) (x : List ℕ) where
       → flipped ws c x g h ≡ choose (touched ws c x (flipped ws c x g) h) (b (flipped ws c x g) h) (v h)
   flipped-above g h l m = flipped-step g h l ∙ rw (ne-eqb h g (λ e. omega arith))
 
+  -- they are 0 or 1
+  pub flipped-bit : (g h : ℕ) → g < c .graphs → h < c .graphs → flipped ws c x g h < 2
+  flipped-bit g h l m = rw (flipped-solves g l h m) (choose-bit (eqb h g) _ _ (omega arith) (graph-bit a good x good-keeps _ h))
+
   -- a listed graph's value is flipped
   pub listed-flipped : (g h : ℕ) → g < c .graphs → h < c .graphs → listed ws c x g h ≡ true → flipped ws c x g h ≡ 1 - v h
   listed-flipped g h l m e =
       let n : flipped ws c x g h ≡ v h → ⊥ = λ q. false≢true (sym (agree _ _ q) ∙ e) in
-      let r : held b g (1 - v g) (flipped ws c x g) h < 2 = choose-bit (eqb h g) _ _ (omega arith) (graph-bit a good x good-keeps _ h) in
-      omega (arith, flipped-solves g l h m, good-bit h m)
+      omega (arith, flipped-bit g h l m, good-bit h m)
 
   -- One graph altered, by any setting that leaves the others alone. `graph .. s x v g` is what g gives with it over good values.
   module _ (s : Setting) (g : ℕ) (l : g < c .graphs) (spares : (h : ℕ) → h < c .graphs → (h ≡ g → ⊥) → Spares ws c s h) (keeps : Keeps s) where

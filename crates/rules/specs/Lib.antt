@@ -1,2 +1,3 @@
 pub mod Rules
 pub mod Stopped
+pub mod Leads

@@ -6,16 +6,17 @@ use native.Mathlib.Omega.{arith}
 use native.Mathlib.Decide.{ℕ-discrete, decLt}
 use lib.ListN.{length, getD, set, length-set}
 use lib.Seq.{getD-set-same, getD-set-other}
-use Rattle.word32.specs.Fields.{readGraph, exitOf}
+use Rattle.word32.specs.Fields.{exitOf}
 use Rattle.answers.specs.declared.Counts.{Counts}
-use Rattle.layout.specs.Layout.{first, size, reads, decided, decision}
+use Rattle.layout.specs.Layout.{first, size, reads, decision}
 use Rattle.layout.proofs.Firsts.{apart, node-below}
-use Rattle.layout.specs.Tables.{Ready}
+use Rattle.layout.specs.Tables.{Decided, Ready}
 use Rattle.layout.proofs.Places.{walkable, some-node, first-is, decision-is}
 use Rattle.testvectors.specs.Vectors.{bit}
 use Rattle.value.specs.Settings.{good}
 use Rattle.value.specs.Values.{follow, value, nodeValue}
-use Rattle.value.proofs.Values.{value-input, value-output}
+use Rattle.value.proofs.Settings.{good-keeps}
+use Rattle.value.proofs.Values.{value-input, value-output, value-bit}
 use Rattle.value.proofs.Run.{node-ends, node-goes}
 use Rattle.sweep.specs.Swept.{Swept, Partly}
 
@@ -42,10 +43,13 @@ module _ {ws firsts : List ℕ} {c : Counts} (y : Ready ws c firsts) where
   -- local node k of graph g, whose first node the table gives as f: its decision d and its exit a, where the values of the lower graphs and of the later
   -- nodes are there
   module _ {g k f : ℕ} (h : g < c .graphs) (l : k < size ws g) (e : f ≡ getD firsts g 0) where
-    module _ (x xs : List ℕ) {d a : ℕ} (q : d ≡ decided (getD ws (g + 1 + 2 * (f + k)) 0) (getD xs (c .nodes + readGraph (getD ws (g + 1 + 2 * (f + k)) 0)) 0))
+    module _ (x xs : List ℕ) {d a : ℕ} (q : Decided ws (g + 1 + 2 * (f + k)) xs (c .nodes) d)
         (u : a ≡ exitOf (getD ws (g + 2 + 2 * (f + k)) 0) d) (p : Partly ws c x g (k + 1) xs) where
       decision-good : d ≡ decision ws (value ws c good x) g k
-      decision-good = decision-is (walkable y h) l e (value ws c good x) xs (c .nodes) q (p .done .graphs (reads ws g k) (y .shape .reads-lower g h k l))
+      decision-good =
+          let r = y .shape .reads-lower g h k l in
+          decision-is (walkable y h) l e (value ws c good x) xs (c .nodes) q (p .done .graphs (reads ws g k) r)
+          (value-bit (y .shape) good x good-keeps (reads ws g k) (omega arith))
 
       exit-good : {b : ℕ} → b ≡ follow (λ i. getD xs (f + i) 0) a → b ≡ nodeValue ws c good x g k
       exit-good z = elim (decLt a 2) [

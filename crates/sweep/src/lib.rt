@@ -4,7 +4,8 @@ ghost use mathlib.Core.Path.{_≡_};
 ghost use mathlib.Core.List.{List};
 ghost use Prim.Native.Nat.{ℕ, _+_, _-_, _≤_, _<_};
 ghost use lib.ListN.{length, getD};
-ghost use Rattle.layout.specs.Layout.{size};
+ghost use Rattle.layout.specs.Layout.{first, size};
+ghost use Rattle.layout.specs.Shape.{Shape};
 ghost use Rattle.layout.specs.Tables.{Ready};
 ghost use Rattle.testvectors.specs.Parts.{Wide};
 ghost use Rattle.value.specs.Values.{follow};
@@ -22,28 +23,27 @@ pub fn exit_value(values: &[u32], first: usize, e: usize) -> u32
     lists::get(values, first + (e - 2))
 }
 
-// The value of local node k of graph g goes to its place, where those of the later nodes are. No bit of a vector is read: it promises so for each.
-fn sweep_node(card: &[u32], c: Counts, firsts: &[u32], g: usize, k: usize, values: &mut [u32])
-    requires { ⌜ Ready (now card) c (now firsts) × (g < c .graphs) × (k < size (now card) g) × (c .nodes + c .graphs ≤ length (now values)) ⌝ }
+// The value of local node k of graph g, whose first node is `from`, goes to its place, where those of the later nodes are. No bit of a vector is read: it promises so for each.
+fn sweep_node(card: &[u32], c: Counts, from: usize, g: usize, k: usize, values: &mut [u32])
+    requires { ⌜ Shape (now card) c × (from ≡ first (now card) g) × (g < c .graphs) × (k < size (now card) g) × (c .nodes + c .graphs ≤ length (now values)) ⌝ }
     ensures { λ _. ⌜ ((x : List ℕ) → Partly (now (card .entry)) c x g (k + 1) (now (values .entry)) → Partly (now (card .entry)) c x g k (now (values .exit))) ⌝ }
 {
-    let first = layout::first_node(firsts, g);
-    let j = first + k;
+    let j = from + k;
     let d = layout::decision(card, g, j, values, c.nodes);
     let e = layout::exit_at(card, g, j, d);
-    let v = exit_value(values, first, e);
+    let v = exit_value(values, from, e);
     lists::put(values, j, v);
 }
 
-// All nodes of graph g, of which there are n.
-fn sweep_nodes(card: &[u32], c: Counts, firsts: &[u32], g: usize, n: usize, values: &mut [u32])
-    requires { ⌜ Ready (now card) c (now firsts) × (g < c .graphs) × (n ≡ size (now card) g) × (c .nodes + c .graphs ≤ length (now values)) ⌝ }
+// All nodes of graph g, of which there are n, from `from` on.
+fn sweep_nodes(card: &[u32], c: Counts, from: usize, g: usize, n: usize, values: &mut [u32])
+    requires { ⌜ Shape (now card) c × (from ≡ first (now card) g) × (g < c .graphs) × (n ≡ size (now card) g) × (c .nodes + c .graphs ≤ length (now values)) ⌝ }
     ensures { λ _. ⌜ ((x : List ℕ) → Swept (now (card .entry)) c x g (now (values .entry)) → Partly (now (card .entry)) c x g 0 (now (values .exit))) ⌝ }
 {
     let mut k = n;
     while 0 < k {
         k -= 1;
-        sweep_node(card, c, firsts, g, k, values);
+        sweep_node(card, c, from, g, k, values);
     }
 }
 
@@ -66,7 +66,7 @@ fn sweep_graph(
     }
     let first = layout::first_node(firsts, g);
     let n = layout::graph_size(firsts, g);
-    sweep_nodes(card, c, firsts, g, n, values);
+    sweep_nodes(card, c, first, g, n, values);
     let v = lists::get(values, first);
     lists::put(values, place, v);
 }

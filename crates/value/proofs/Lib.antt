@@ -3,4 +3,5 @@
 pub mod Walk
 pub mod Settings
 pub mod Values
+pub mod Direct
 pub mod Run

@@ -1,3 +1,4 @@
 pub mod Run
 pub mod Settings
 pub mod Values
+pub mod Direct

@@ -74,6 +74,14 @@ table =
       words = S ++ (0x40000003 ∷ 0x60000000 ∷ 0x8000C001 ∷ 0x60000001 ∷ 0x80010000 ∷ 0x60000002 ∷ 0x80000001 ∷ []);
       told = result (1 ∷ 4 ∷ 6 ∷ 2 ∷ 20 ∷ []);
     }
+    -- an inverter on the hidden graph of S: the read keeps its bit 16
+    ∷ record {
+      card = 0 ∷ 0x40000001 ∷ 0x60010000 ∷ 0x80000001 ∷ [];
+      counted = counts 1 2 1 1;
+      wires = 1 ∷ [];
+      words = S ++ (0x40000001 ∷ 0x60010001 ∷ 0x80000001 ∷ []);
+      told = result (1 ∷ 4 ∷ 4 ∷ 2 ∷ 16 ∷ []);
+    }
     ∷ []
 
 abbrev pub answered : Case → Case

@@ -1,14 +1,16 @@
 -- The words of the joined card. Assumes nothing.
 use Prim.Native.Nat.{ℕ, _+_, _-_, _*_, _^_, _<_}
-use mathlib.Core.Path.{_≡_, refl, sym, ap, _∙_}
+use mathlib.Core.Path.{_≡_, sym, ap, _∙_}
 use mathlib.Core.List.{List, map, _++_}
 use native.Mathlib.Omega.{arith}
 use lib.ListN.{length, getD, drop, length-append, length-drop, length-map, List·getD-append, List·getD-map}
 use lib.Seq.{getD-drop, getD-append-add}
+use lib.Dec.{eqb}
 use borrow.Author.Tests.{eq-eqb, ne-eqb}
+use Rattle.lists.specs.Counting.{choose}
 use Rattle.lists.specs.Tables.{tab, always}
 use Rattle.lists.proofs.Tables.{length-tab, tab-at}
-use Rattle.word32.specs.Fields.{kind, readSpare, readGraph, withRead}
+use Rattle.word32.specs.Fields.{kind, readSpare, readGraph, readInverted, withRead}
 use Rattle.answers.specs.declared.Counts.{Counts}
 use Rattle.layout.specs.Layout.{decided}
 use Rattle.layout.specs.Shape.{Accepts}
@@ -25,10 +27,6 @@ module _ (number : ℕ → ℕ) (w : ℕ) where
   unfolding moved
   moved-is e = rw (eq-eqb (kind w) 3 e)
 
-  pub moved-decided : (r : ℕ) → decided (moved number w) r ≡ decided w r
-  unfolding decided
-  moved-decided r = refl
-
   module _ (e : kind w ≡ 3) (few : number (readGraph w) < 2 ^ 16) where
     pub moved-kind : kind (moved number w) ≡ 3
     moved-kind = rw (moved-is e) (omega arith)
@@ -38,6 +36,14 @@ module _ (number : ℕ → ℕ) (w : ℕ) where
 
     pub moved-read : readGraph (moved number w) ≡ number (readGraph w)
     moved-read = rw (moved-is e) (omega arith)
+
+    -- an inverted read stays one, so that the decision is as it was
+    moved-inverted : readInverted (moved number w) ≡ readInverted w
+    moved-inverted = rw (moved-is e) (omega arith)
+
+    pub moved-decided : (r : ℕ) → decided (moved number w) r ≡ decided w r
+    unfolding decided
+    moved-decided r = ap (λ (b : ℕ). choose (eqb b 1) (1 - r) r) moved-inverted
 
 -- the words of a card from word m on, moved: their number, and each of them
 module _ (number : ℕ → ℕ) (m : ℕ) (ws : List ℕ) where

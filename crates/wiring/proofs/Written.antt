@@ -151,7 +151,7 @@ module _ {ws js : List ℕ} {c : Counts} {number : ℕ → ℕ} {start before : 
       start = first-is;
       read = read-is;
       exit = λ k d h. ap (λ (w : ℕ). exitOf w d) (exits-word k h);
-      decide = λ k v h. ap (λ (w : ℕ). decided w v) (read-word k h) ∙ moved-decided number (word ws (readAt ws g k)) v;
+      decide = λ k v h. ap (λ (w : ℕ). decided w v) (read-word k h) ∙ moved-decided number (word ws (readAt ws g k)) (r k h .due) (read-few k h) v;
     }
 
     -- and is sound there

@@ -13,9 +13,9 @@ inputSpare w = w % 2 ^ 29
 abbrev pub headerSpare : ℕ → ℕ
 headerSpare w = w / 2 ^ 16 % 2 ^ 13
 
--- bits 28..16, which must be zero in a read: a name of its own, so that a change of the format alters it alone
+-- bits 28..17, which must be zero in a read
 abbrev pub readSpare : ℕ → ℕ
-readSpare w = w / 2 ^ 16 % 2 ^ 13
+readSpare w = w / 2 ^ 17 % 2 ^ 12
 
 -- bit 28, which must be zero in a pair of exits
 abbrev pub exitsSpare : ℕ → ℕ
@@ -28,6 +28,10 @@ nodeCount w = w % 2 ^ 16
 -- bits 15..0 of a read: which graph is read
 abbrev pub readGraph : ℕ → ℕ
 readGraph w = w % 2 ^ 16
+
+-- bit 16 of a read: 1 where it is inverted
+abbrev pub readInverted : ℕ → ℕ
+readInverted w = w / 2 ^ 16 % 2
 
 -- the read w with graph g, below 2 ^ 16, in the place of its own: every other bit stays
 abbrev pub withRead : ℕ → ℕ → ℕ

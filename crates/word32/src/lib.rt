@@ -3,7 +3,7 @@ ghost use mathlib.Core.Path.{_≡_};
 ghost use Prim.Native.Nat.{_+_, _*_, _/_, _<_, _≤_};
 ghost use lib.ListN.{length};
 ghost use Rattle.lists.specs.Tables.{over};
-ghost use Rattle.word32.specs.Fields.{kind, inputSpare, headerSpare, readSpare, exitsSpare, nodeCount, readGraph, withRead, exitOf, bitOf};
+ghost use Rattle.word32.specs.Fields.{kind, inputSpare, headerSpare, readSpare, exitsSpare, nodeCount, readGraph, readInverted, withRead, exitOf, bitOf};
 ghost use Rattle.word32.specs.Bytes.{wordAt, setWord, byteOf};
 
 // Bits 31..29: what kind of word it is.
@@ -27,11 +27,11 @@ pub fn header_spare(w: u32) -> u32
     (w >> 16) & 0x1FFF
 }
 
-// Bits 28..16, which must be zero in a read.
+// Bits 28..17, which must be zero in a read.
 pub fn read_spare(w: u32) -> u32
     ensures { λ r. ⌜ r ≡ readSpare w ⌝ }
 {
-    (w >> 16) & 0x1FFF
+    (w >> 17) & 0xFFF
 }
 
 // Bit 28, which must be zero in a pair of exits.
@@ -53,6 +53,13 @@ pub fn read_graph(w: u32) -> usize
     ensures { λ r. ⌜ r ≡ readGraph w ⌝ }
 {
     (w & 0xFFFF) as usize
+}
+
+// Bit 16 of a read: 1 where it is inverted.
+pub fn read_inverted(w: u32) -> u32
+    ensures { λ r. ⌜ r ≡ readInverted w ⌝ }
+{
+    (w >> 16) & 1
 }
 
 // A read with another graph's number; every other bit stays.

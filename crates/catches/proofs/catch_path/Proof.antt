@@ -53,25 +53,25 @@ caught-there-requires c κs =
     let f = at-first-node .first-node .ensures in
     (node-inside (walkable (start .pre .0) (start .pre .2)) l f, read-bit (start .pre .0) (start .pre .1) (start .pre .2) l f (c .decision .ensures), λ b e. omega (arith, exit-below (start .pre .0) (start .pre .2) l f b refl e, start .pre .1 .long))
 
-put-requires : tie.Need-put-requires Inv-loop μ-loop
-put-requires c κs =
-    let at-loop = c .before .before .before in
-    let at-first-node = at-loop .before in
-    let start = at-first-node .before .before .before .before .before in
-    omega (arith, place-below (start .pre .0) (start .pre .2) (at-loop .loop .inv .0) (at-first-node .first-node .ensures), start .pre .4, at-loop .loop .inv .1)
-
 exit-at-requires : tie.Need-exit-at-requires Inv-loop μ-loop
 exit-at-requires c κs =
-    let at-loop = c .before .before .before .before .before .before in
+    let at-loop = c .before .before in
     let at-first-node = at-loop .before in
     let start = at-first-node .before .before .before .before .before in
     node-inside (walkable (start .pre .0) (start .pre .2)) (at-loop .loop .inv .0) (at-first-node .first-node .ensures)
 
+put-requires : tie.Need-put-requires Inv-loop μ-loop
+put-requires c κs =
+    let at-loop = c .before .before .before .before in
+    let at-first-node = at-loop .before in
+    let start = at-first-node .before .before .before .before .before in
+    omega (arith, place-below (start .pre .0) (start .pre .2) (at-loop .loop .inv .0) (at-first-node .first-node .ensures), start .pre .4, at-loop .loop .inv .1)
+
 returns : tie.Need-returns Inv-loop μ-loop
 returns c =
-    let at-exit-at = c .before in
-    let at-put = at-exit-at .before .before .before in
-    let at-caught-there = at-put .before .before in
+    let at-put = c .before .before .before in
+    let at-exit-at = at-put .before .before in
+    let at-caught-there = at-exit-at .before in
     let at-decision = at-caught-there .before in
     let at-loop = at-decision .before in
     let at-first-node = at-loop .before in
@@ -82,8 +82,8 @@ returns c =
 
 loop-less : tie.Need-loop-less Inv-loop μ-loop
 loop-less c =
-    let at-exit-at = c .before in
-    let at-decision = at-exit-at .before .before .before .before .before .before in
+    let at-exit-at = c .before .before .before .before .before in
+    let at-decision = at-exit-at .before .before in
     let at-loop = at-decision .before in
     let at-first-node = at-loop .before in
     let start = at-first-node .before .before .before .before .before in
@@ -92,9 +92,9 @@ loop-less c =
 
 loop-again : tie.Need-loop-again Inv-loop μ-loop
 loop-again c =
-    let at-exit-at = c .before in
-    let at-put = at-exit-at .before .before .before in
-    let at-caught-there = at-put .before .before in
+    let at-put = c .before .before .before in
+    let at-exit-at = at-put .before .before in
+    let at-caught-there = at-exit-at .before in
     let at-decision = at-caught-there .before in
     let at-loop = at-decision .before in
     let at-first-node = at-loop .before in
@@ -111,4 +111,4 @@ loop-again c =
 pub catch-path-spec : {M : Type 1} → statement M
 catch-path-spec =
     tie.close
-    (tie.spec Inv-loop μ-loop (λ c κs. search needs) loop-holds add-j decision-requires caught-there-requires put-requires exit-at-requires (λ c. search needs) returns loop-less loop-again)
+    (tie.spec Inv-loop μ-loop (λ c κs. search needs) loop-holds add-j decision-requires caught-there-requires exit-at-requires put-requires (λ c. search needs) returns loop-less loop-again)

@@ -1,5 +1,6 @@
--- `change::walk_graph` meets its contract. The invariant: the walk from node k gives what the walk from the entrance does. Assumes nothing.
-use Prim.Native.Nat.{_<_, _-_}
+-- `change::walk_graph` meets its contract. The invariant: the exit e is no constant, and where the values are 0 or 1, the walk
+-- from its node gives what the walk from the entrance does. Assumes nothing.
+use Prim.Native.Nat.{_<_, _≤_, _-_}
 use mathlib.Core.Path.{_≡_, refl, sym, _∙_}
 use native.Mathlib.Omega.{arith}
 use lib.ListN.{getD}
@@ -7,19 +8,25 @@ use Rattle.layout.specs.Layout.{size}
 use Rattle.layout.proofs.Places.{node-inside, read-below}
 use Rattle.value.specs.Settings.{good}
 use Rattle.value.specs.Values.{walk, taken}
+use Rattle.change.specs.Flips.{BitsBelow}
 use Rattle.change.proofs.Laws.{walk-ends, walk-goes}
 use borrow.Author.Needs.{needs}
 use Rattle.change.proofs.walk_graph.Statement.{statement}
 use Rattle.change.proofs.walk_graph.Tie as tie
 
 abbrev Inv-loop : tie.InvT-loop
-Inv-loop card firsts h flips first k₀ k = (k < size card h) × (walk (taken card good (λ g. getD flips g 0) h) (size card h) 0 ≡ walk (taken card good (λ g. getD flips g 0) h) (size card h) k)
+Inv-loop card firsts h flips first e₀ e = (e - 2 < size card h)
+    × (BitsBelow h flips → walk (taken card good (λ g. getD flips g 0) h) (size card h) 0 ≡ walk (taken card good (λ g. getD flips g 0) h) (size card h) (e - 2))
+    × (2 ≤ e)
 
 abbrev μ-loop : tie.MeasureT-loop
-μ-loop card firsts h flips first k₀ k = size card h - k
+μ-loop card firsts h flips first e₀ e = size card h - (e - 2)
 
 loop-holds : tie.Need-loop-holds Inv-loop μ-loop
-loop-holds c = (c .before .before .before .before .pre .1, refl)
+loop-holds c = (c .before .before .before .before .pre .1, λ b. refl, omega arith)
+
+sub-j : tie.Need-sub-j Inv-loop μ-loop
+sub-j c = c .loop .inv .2
 
 add-j : tie.Need-add-j Inv-loop μ-loop
 add-j c =
@@ -48,7 +55,7 @@ returns c =
     let at-loop = at-decision .before in
     let at-first-node = at-loop .before in
     let start = at-first-node .before .before .before .before in
-    walk-ends (start .pre .0) (at-loop .loop .inv .0) (at-first-node .first-node .ensures) (start .args .flips .now) (at-decision .decision .ensures) (at-exit-at .exit-at .ensures) (c .if1 .taken) ∙ sym (at-loop .loop .inv .1)
+    λ b. walk-ends (start .pre .0) (at-loop .loop .inv .0) (at-first-node .first-node .ensures) (start .args .flips .now) (at-decision .decision .ensures) (at-exit-at .exit-at .ensures) (c .if1 .taken) b ∙ sym (at-loop .loop .inv .1 b)
 
 loop-less : tie.Need-loop-less Inv-loop μ-loop
 loop-less c =
@@ -68,9 +75,9 @@ loop-again c =
     let at-first-node = at-loop .before in
     let start = at-first-node .before .before .before .before in
     let n = walk-goes (start .pre .0) (at-loop .loop .inv .0) (at-first-node .first-node .ensures) (start .args .flips .now) (at-decision .decision .ensures) (at-exit-at .exit-at .ensures) (c .if1 .left) in
-    (n .1, at-loop .loop .inv .1 ∙ n .2)
+    (n .1, λ b. at-loop .loop .inv .1 b ∙ n .2 b, c .if1 .left)
 
 pub walk-graph-spec : {M : Type 1} → statement M
 walk-graph-spec =
     tie.close
-    (tie.spec Inv-loop μ-loop (λ c κs. search needs) loop-holds add-j decision-requires exit-at-requires (λ c. search needs) returns loop-less loop-again)
+    (tie.spec Inv-loop μ-loop (λ c κs. search needs) loop-holds sub-j add-j decision-requires exit-at-requires (λ c. search needs) returns loop-less loop-again)

@@ -1,5 +1,5 @@
 -- `sweep::sweep_graph` meets its contract. Assumes nothing.
-use Rattle.layout.proofs.Places.{walkable, size-asks, size-told}
+use Rattle.layout.proofs.Places.{walkable, first-is, size-asks, size-told}
 use Rattle.sweep.proofs.Laws.{input-stored, entrance-inside, output-stored}
 use borrow.Author.Needs.{needs}
 use Rattle.sweep.proofs.sweep_graph.Statement.{statement}
@@ -28,9 +28,11 @@ graph-size-requires c κs =
 sweep-nodes-requires : tie.Need-sweep-nodes-requires
 sweep-nodes-requires c κs =
     let at-size = c .before in
-    let at-if1 = at-size .before .before in
+    let at-first-node = at-size .before in
+    let at-if1 = at-first-node .before in
     let start = at-if1 .before .before .before .before .before .before .before in
-    (start .pre .0, start .pre .2, size-told (walkable (start .pre .0) (start .pre .2)) (at-size .graph-size .ensures), start .pre .3 .long)
+    let y = walkable (start .pre .0) (start .pre .2) in
+    (start .pre .0 .shape, first-is y (at-first-node .first-node .ensures), start .pre .2, size-told y (at-size .graph-size .ensures), start .pre .3 .long)
 
 get-requires : tie.Need-get-requires
 get-requires c κs =

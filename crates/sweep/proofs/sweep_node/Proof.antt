@@ -1,6 +1,6 @@
 -- `sweep::sweep_node` meets its contract. Assumes nothing.
 use native.Mathlib.Omega.{arith}
-use Rattle.layout.proofs.Places.{walkable, node-inside, read-below, place-below, exit-below}
+use Rattle.layout.proofs.Places.{own-ready, own-first, walkable, node-inside, read-below, place-below, exit-below}
 use Rattle.sweep.proofs.Laws.{node-stored}
 use borrow.Author.Needs.{needs}
 use Rattle.sweep.proofs.sweep_node.Statement.{statement}
@@ -8,36 +8,35 @@ use Rattle.sweep.proofs.sweep_node.Tie as tie
 
 add-j : tie.Need-add-j
 add-j c =
-    let start = c .before .before .before .before in
-    omega (arith, place-below (start .pre .0) (start .pre .1) (start .pre .2) (c .first-node .ensures), start .pre .0 .shape .few-nodes)
+    let start = c .before .before in
+    let f = own-first (start .pre .0) (start .pre .2) (start .pre .1) in
+    omega (arith, place-below (own-ready (start .pre .0)) (start .pre .2) (start .pre .3) f, start .pre .0 .few-nodes)
 
 decision-requires : tie.Need-decision-requires
 decision-requires c κs =
-    let at-first-node = c .before in
-    let start = at-first-node .before .before .before .before in
-    let y = walkable (start .pre .0) (start .pre .1) in
-    let f = at-first-node .first-node .ensures in
-    (omega (arith, node-inside y (start .pre .2) f), omega (arith, read-below y (start .pre .2) f, start .pre .1, start .pre .3))
+    let start = c .before .before .before in
+    let y = walkable (own-ready (start .pre .0)) (start .pre .2) in
+    let f = own-first (start .pre .0) (start .pre .2) (start .pre .1) in
+    (omega (arith, node-inside y (start .pre .3) f), omega (arith, read-below y (start .pre .3) f, start .pre .2, start .pre .4))
 
 exit-at-requires : tie.Need-exit-at-requires
 exit-at-requires c κs =
-    let at-first-node = c .before .before in
-    let start = at-first-node .before .before .before .before in
-    node-inside (walkable (start .pre .0) (start .pre .1)) (start .pre .2) (at-first-node .first-node .ensures)
+    let start = c .before .before .before .before in
+    node-inside (walkable (own-ready (start .pre .0)) (start .pre .2)) (start .pre .3) (own-first (start .pre .0) (start .pre .2) (start .pre .1))
 
 exit-value-requires : tie.Need-exit-value-requires
 exit-value-requires c κs =
     let at-exit-at = c .before in
     let at-decision = at-exit-at .before in
-    let at-first-node = at-decision .before .before in
-    let start = at-first-node .before .before .before .before in
-    λ b. omega (arith, exit-below (start .pre .0) (start .pre .1) (start .pre .2) (at-first-node .first-node .ensures) (at-decision .decision .result) (at-exit-at .exit-at .ensures) b, start .pre .3)
+    let start = at-decision .before .before .before .before in
+    let f = own-first (start .pre .0) (start .pre .2) (start .pre .1) in
+    λ b. omega (arith, exit-below (own-ready (start .pre .0)) (start .pre .2) (start .pre .3) f (at-decision .decision .result) (at-exit-at .exit-at .ensures) b, start .pre .4)
 
 put-requires : tie.Need-put-requires
 put-requires c κs =
-    let at-first-node = c .before .before .before .before .before .before in
-    let start = at-first-node .before .before .before .before in
-    omega (arith, place-below (start .pre .0) (start .pre .1) (start .pre .2) (at-first-node .first-node .ensures), start .pre .3)
+    let start = c .before .before .before .before .before .before .before .before in
+    let f = own-first (start .pre .0) (start .pre .2) (start .pre .1) in
+    omega (arith, place-below (own-ready (start .pre .0)) (start .pre .2) (start .pre .3) f, start .pre .4)
 
 returns : tie.Need-returns
 returns c =
@@ -45,11 +44,11 @@ returns c =
     let at-exit-value = at-put .before .before in
     let at-exit-at = at-exit-value .before .before in
     let at-decision = at-exit-at .before in
-    let at-first-node = at-decision .before .before in
-    let start = at-first-node .before .before .before .before in
-    λ x p. node-stored (start .pre .0) (start .pre .1) (start .pre .2) (at-first-node .first-node .ensures) x _ (at-decision .decision .ensures) (at-exit-at .exit-at .ensures) p (at-exit-value .exit-value .ensures) (at-put .put .ensures)
+    let start = at-decision .before .before .before .before in
+    let f = own-first (start .pre .0) (start .pre .2) (start .pre .1) in
+    λ x p. node-stored (own-ready (start .pre .0)) (start .pre .2) (start .pre .3) f x _ (at-decision .decision .ensures) (at-exit-at .exit-at .ensures) p (at-exit-value .exit-value .ensures) (at-put .put .ensures)
 
 pub sweep-node-spec : {M : Type 1} → statement M
 sweep-node-spec =
     tie.close
-    (tie.spec (λ c κs. search needs) add-j decision-requires exit-at-requires exit-value-requires put-requires (λ c. search needs) returns)
+    (tie.spec add-j decision-requires exit-at-requires exit-value-requires put-requires (λ c. search needs) returns)

@@ -12,20 +12,20 @@ use Rattle.sweep.proofs.sweep_nodes.Statement.{statement}
 use Rattle.sweep.proofs.sweep_nodes.Tie as tie
 
 abbrev Inv-loop : tie.InvT-loop
-Inv-loop card c firsts g n values₀ k₀ values k = (k ≤ n) × (length values ≡ length values₀) × ((x : List ℕ) → Swept card c x g values₀ → Partly card c x g k values)
+Inv-loop card c from g n values₀ k₀ values k = (k ≤ n) × (length values ≡ length values₀) × ((x : List ℕ) → Swept card c x g values₀ → Partly card c x g k values)
 
 abbrev μ-loop : tie.MeasureT-loop
-μ-loop card c firsts g n values₀ k₀ values k = k
+μ-loop card c from g n values₀ k₀ values k = k
 
 loop-holds : tie.Need-loop-holds Inv-loop μ-loop
-loop-holds c = (omega arith, refl, λ x s. none-later s (c .before .before .before .pre .2))
+loop-holds c = (omega arith, refl, λ x s. none-later s (c .before .before .pre .3))
 
 sweep-node-requires : tie.Need-sweep-node-requires Inv-loop μ-loop
 sweep-node-requires c κs =
     let at-loop-test = c .before in
     let at-loop = at-loop-test .before in
-    let start = at-loop .before .before .before .before in
-    (start .pre .0, start .pre .1, omega (arith, start .pre .2, at-loop .loop .inv .0, at-loop-test .loop-test .taken), omega (arith, start .pre .3, at-loop .loop .inv .1))
+    let start = at-loop .before .before .before in
+    (start .pre .0, start .pre .1, start .pre .2, omega (arith, start .pre .3, at-loop .loop .inv .0, at-loop-test .loop-test .taken), omega (arith, start .pre .4, at-loop .loop .inv .1))
 
 loop-again : tie.Need-loop-again Inv-loop μ-loop
 loop-again c =
