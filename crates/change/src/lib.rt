@@ -12,7 +12,8 @@ ghost use Rattle.rules.specs.Rules.{flipped};
 ghost use Rattle.change.specs.Flips.{BitsBelow, Has, Between};
 use answers::Counts;
 
-// The value of output graph h where the graphs have the values of the buffer, 0 or 1 each: its walk from the entrance.
+// The value of output graph h where the graphs have the values of the buffer, 0 or 1 each: its walk from the entrance. Exit e leads to local node e - 2, and
+// so the walk starts as if exit 2 had been taken.
 pub fn walk_graph(card: &[u32], firsts: &[u32], h: usize, flips: &[u32]) -> u32
     requires { ⌜ Walkable (now card) (now firsts) h × (0 < size (now card) h) × (h ≤ length (now flips)) ⌝ }
     ensures { λ r. ⌜ (BitsBelow h (now (flips .entry)) → r ≡ walk (taken (now (card .entry)) good (λ g. getD (now (flips .entry)) g 0) h) (size (now (card .entry)) h) 0) ⌝ }

@@ -1,4 +1,5 @@
--- The table of an accepted card's first nodes, a node's decision by a buffer of values, and what a walk through a graph's nodes asks. No contract of a call cites these. Assumes nothing.
+-- The table of an accepted card's first nodes, a node's decision by a buffer of values, and what a walk through a graph's nodes asks. No contract of a
+-- call cites these. Assumes nothing.
 use Prim.Native.Nat.{ℕ, _+_, _*_, _<_, _≤_}
 use mathlib.Core.Path.{_≡_}
 use mathlib.Core.List.{List}

@@ -92,7 +92,8 @@ pub fn graph_read(card: &[u32], g: usize, j: usize) -> usize
     word32::read_graph(lists::get(card, g + 1 + 2 * j))
 }
 
-// The decision of node j, of graph g, where graph r's value, 0 or 1, stands at base + r. Every walk takes a node's decision from here.
+// The decision of node j, of graph g, where graph r's value, 0 or 1, stands at base + r: an exclusive or turns it round at an inverted read. Every walk takes
+// a node's decision from here.
 pub fn decision(card: &[u32], g: usize, j: usize, values: &[u32], base: usize) -> u32
     requires { ⌜ (g + 1 + 2 * j < length (now card)) × (base + readGraph (getD (now card) (g + 1 + 2 * j) 0) < length (now values)) ⌝ }
     ensures { λ r. ⌜ Decided (now (card .entry)) (g + 1 + 2 * j) (now (values .entry)) base r ⌝ }

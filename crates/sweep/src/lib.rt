@@ -23,7 +23,8 @@ pub fn exit_value(values: &[u32], first: usize, e: usize) -> u32
     lists::get(values, first + (e - 2))
 }
 
-// The value of local node k of graph g, whose first node is `from`, goes to its place, where those of the later nodes are. No bit of a vector is read: it promises so for each.
+// The value of local node k of graph g, whose first node is `from`, goes to its place, where those of the later nodes are. No bit of a vector is read: it
+// promises so for each.
 fn sweep_node(card: &[u32], c: Counts, from: usize, g: usize, k: usize, values: &mut [u32])
     requires { ⌜ Shape (now card) c × (from ≡ first (now card) g) × (g < c .graphs) × (k < size (now card) g) × (c .nodes + c .graphs ≤ length (now values)) ⌝ }
     ensures { λ _. ⌜ ((x : List ℕ) → Partly (now (card .entry)) c x g (k + 1) (now (values .entry)) → Partly (now (card .entry)) c x g k (now (values .exit))) ⌝ }
