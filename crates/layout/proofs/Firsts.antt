@@ -1,6 +1,6 @@
 -- Where the graphs and nodes of a card stand: each node in one graph only, and all inside the words; and what a node decides. Assumes nothing.
 use Prim.Native.Nat.{ℕ, zero, suc, _+_, _-_, _*_, _/_, _^_, _<_, _≤_}
-use mathlib.Core.Path.{_≡_, refl, ap, _∙_}
+use mathlib.Core.Path.{_≡_, refl, sym, ap, _∙_}
 use mathlib.Core.List.{List}
 use mathlib.Core.Bool.{Bool, true, false}
 use native.Mathlib.Omega.{arith}
@@ -8,7 +8,6 @@ use native.Mathlib.Nat.{add-zero, add-suc, mod-lt, zero-lt-suc}
 use native.Mathlib.Decide.{ℕ-discrete, decLt}
 use native.Mathlib.Numerals.{add-one}
 use lib.ListN.{length, getD}
-use lib.Bits.{bitXor, xor-zero-r}
 use lib.Dec.{eqb}
 use borrow.Author.Tests.{eqb-true, ne-eqb}
 use Rattle.lists.specs.Counting.{choose}
@@ -63,17 +62,29 @@ module _ {ws : List ℕ} {c : Counts} (s : Shape ws c) where
   pub node-below : (g k : ℕ) → g < c .graphs → k < size ws g → first ws g + k < c .nodes
   node-below g k l h = rw (s .nodes-in) at (first-above ws g (c .graphs) k l h)
 
--- A DECISION at the read w is the value read where the bit is clear, and one minus that where it is set: of a value that is 0 or 1, the exclusive or of both
-pub decided-xor : (w r : ℕ) → r < 2 → bitXor r (readInverted w) ≡ decided w r
+-- A DECISION at the read w is the value read where the bit is clear, and one minus that where it is set: of a value that is 0 or 1, 0 where it is the bit
+pub decided-same : (w r : ℕ) → r < 2 → r ≡ readInverted w → 0 ≡ decided w r
 unfolding decided
-decided-xor w r h = go r (readInverted w) h (mod-lt (w / 2 ^ 16) (zero-lt-suc 1))
+decided-same w r h e = rw (sym e) (go r h)
   where
-    go : (r b : ℕ) → r < 2 → b < 2 → bitXor r b ≡ choose (eqb b 1) (1 - r) r
-    go r zero h l = xor-zero-r r
-    go zero (suc zero) h l = refl
-    go (suc zero) (suc zero) h l = refl
-    go (suc (suc r)) (suc zero) h l = absurd (omega arith)
-    go r (suc (suc b)) h l = absurd (omega arith)
+    go : (r : ℕ) → r < 2 → 0 ≡ choose (eqb r 1) (1 - r) r
+    go zero h = refl
+    go (suc zero) h = refl
+    go (suc (suc r)) h = absurd (omega arith)
+
+-- and else 1
+pub decided-other : (w r : ℕ) → r < 2 → (r ≡ readInverted w → ⊥) → 1 ≡ decided w r
+unfolding decided
+decided-other w r h n = go r (readInverted w) h (mod-lt (w / 2 ^ 16) (zero-lt-suc 1)) n
+  where
+    go : (r b : ℕ) → r < 2 → b < 2 → (r ≡ b → ⊥) → 1 ≡ choose (eqb b 1) (1 - r) r
+    go zero zero h l n = absurd (n refl)
+    go zero (suc zero) h l n = refl
+    go zero (suc (suc b)) h l n = absurd (omega arith)
+    go (suc zero) zero h l n = refl
+    go (suc zero) (suc zero) h l n = absurd (n refl)
+    go (suc zero) (suc (suc b)) h l n = absurd (omega arith)
+    go (suc (suc r)) b h l n = absurd (omega arith)
 
 -- the same of a node
 module _ (ws : List ℕ) (g k r : ℕ) where

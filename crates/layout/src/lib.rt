@@ -92,14 +92,17 @@ pub fn graph_read(card: &[u32], g: usize, j: usize) -> usize
     word32::read_graph(lists::get(card, g + 1 + 2 * j))
 }
 
-// The decision of node j, of graph g, where graph r's value, 0 or 1, stands at base + r: an exclusive or turns it round at an inverted read. Every walk takes
-// a node's decision from here.
+// The decision of node j, of graph g, where graph r's value, 0 or 1, stands at base + r: 0 where the value read is the bit of an inverted read, and else 1.
+// Every walk takes a node's decision from here.
 pub fn decision(card: &[u32], g: usize, j: usize, values: &[u32], base: usize) -> u32
     requires { ⌜ (g + 1 + 2 * j < length (now card)) × (base + readGraph (getD (now card) (g + 1 + 2 * j) 0) < length (now values)) ⌝ }
     ensures { λ r. ⌜ Decided (now (card .entry)) (g + 1 + 2 * j) (now (values .entry)) base r ⌝ }
 {
     let w = lists::get(card, g + 1 + 2 * j);
-    lists::get(values, base + word32::read_graph(w)) ^ word32::read_inverted(w)
+    if lists::get(values, base + word32::read_graph(w)) == word32::read_inverted(w) {
+        return 0;
+    }
+    1
 }
 
 // The exit of node j, of graph g, at a decision.
