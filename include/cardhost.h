@@ -1,6 +1,6 @@
 /* cardhost.h: the grading engine for logic cards, called from C.
  *
- * Link with libcardhost.a; nothing else is needed. The seven functions keep no state between calls
+ * Link with libcardhost.a; nothing else is needed. The eight functions keep no state between calls
  * and allocate nothing.
  *
  * WORDS. A card, its vectors and every answer are 32-bit words, each as four bytes, highest byte
@@ -28,15 +28,27 @@
  * from 0. A wired input of B is gone, and its readers read the graph of A, inverted where they were.
  * A's nodes keep their numbers, and B's follow them. All else stays as it was.
  *
+ * GATE LISTS stand above cards. A gate list has a word 00000000 for each input, then for each gate a header
+ * and its leads. The header is 20000000 for a hidden gate, 40000000 for an observable one, plus the function
+ * in bits 28..26 (0 AND, 1 OR, 2 NAND, 3 NOR, 4 NOT, 5 BUF) and the number of leads in bits 15..0; bits 25..16
+ * are zero. A lead is 60000000 plus the number of an earlier line: lines are the inputs and the gates, numbered
+ * from 0 in their order. In the card that is made of it each line is a graph of the same kind and number and
+ * each lead a node, in order, so its faults have the numbers of the card's: lead j stuck at 0 or 1 is node j
+ * stuck at that exit, and line l stuck at 0 or 1 is graph l held there. Values and catches are those of the
+ * gates. The graph that counts a single time, above, is here a line that is not observable and that one lead
+ * alone names.
+ *
  * THE ANSWER of every call is one 64-bit number. Below 4294967296 the call is done, and the number is
  *   - of card_grade, the marked count: how many of the faults that count are caught;
  *   - of card_change_list, the length of the list;
  *   - of card_join, the number of words of the joined card;
+ *   - of card_from_gates, the number of words of the card;
  *   - of the other calls, 0.
  * Else the call is refused, and the number is refusal * 4294967296 + position (CARD_REFUSAL and
  * CARD_POSITION take it apart). The first broken rule is told, in this order: 1; then word by word 2,
  * 4, 5 and then 3, 6 or 7, with 8 after a graph's last word; 9; 10; 11; 12, of the marks before the
- * tallies. card_join tells those of A, 1 to 9, then those of B, then 13, 14, 12.
+ * tallies. card_join tells those of A, 1 to 9, then those of B, then 13, 14, 12. card_from_gates tells 1; then
+ * word by word, at a header 2, 4, 5, 3, 15 and at a lead 4, 5, 16; 9; 12.
  *
  *   no.  when                                                          position
  *    1   card over 9,216 whole words                                   0
@@ -55,26 +67,34 @@
  *   13   wire words: another number of them than B has inputs, or one  0, or the wire word
  *        is neither FFFFFFFF nor the number of a graph of A
  *   14   joined card over 1,024 graphs or over 4,096 nodes             0
+ *   15   gate's function 6 or 7, no lead, or NOT or BUF without        the header
+ *        exactly one
+ *   16   lead of a gate names no earlier line                          the kind 3 word
  *
- * Positions count words from 0: in the card, or for refusal 10 in the vector words and for 13 in the
- * wire words; 12's is the buffer's number. Those of B, 0 included, count on after A's words: where A has
+ * Of a gate list 1, 2, 4, 5 and 9 are told with its lines for graphs and its gates for outputs; the bits that
+ * must be zero are 28..0 of an input, 25..16 of a gate's header and 28..16 of a lead. 3 is told where a header's
+ * number of leads takes them over 4,096, and no lead is 15.
+ *
+ * Positions count words from 0: in the card or gate list, or for refusal 10 in the vector words and for 13 in
+ * the wire words; 12's is the buffer's number. Those of B, 0 included, count on after A's words: where A has
  * 9 words, B's word 5 is at 14, and 1 of B is at 9. The number of wire words is looked at before any of
  * them.
  *
- * LEFTOVERS, where a length is no multiple of 4. One to three bytes at a card's end are refusal 4 at
- * the number of its whole words, after the last graph's 8 and just before 9. In vectors they are a
+ * LEFTOVERS, where a length is no multiple of 4. One to three bytes at the end of a card or a gate list are
+ * refusal 4 at the number of its whole words, after the last graph's 8 and just before 9. In vectors they are a
  * wrong number of words, refusal 10 at 0, and in wire words likewise 13 at 0. In a buffer they are
  * unused.
  *
  * BUFFERS. A refused call alters no byte of any buffer. A call that is done writes just the words it
- * names, from a buffer's front; every byte beyond them keeps its content. Cards, vectors and wires are
- * only read.
+ * names, from a buffer's front; every byte beyond them keeps its content. Cards, vectors, wires and gate lists
+ * are only read.
  *
  * TRUSTED, and not looked at: each pointer is good for its length (and not NULL, though nothing is
  * read or written at length 0), and a lent buffer overlaps no other lent part, also not the other buffer.
  * A host that breaks this gets no promise.
  *
- * STACK. A call needs at most CARD_STACK bytes of stack (tests/stack.c measures it on the largest cards).
+ * STACK. A call needs at most CARD_STACK bytes of stack (tests/stack.c measures it on the largest cards and gate
+ * lists).
  */
 #ifndef CARDHOST_H
 #define CARDHOST_H
@@ -129,6 +149,11 @@ uint64_t card_grade(const uint8_t *card, size_t card_len, const uint8_t *vectors
  * whole words of buffer than that. */
 uint64_t card_join(const uint8_t *a, size_t a_len, const uint8_t *b, size_t b_len, const uint8_t *wires, size_t wires_len,
                    uint8_t *card, size_t card_len);
+
+/* Turns a gate list into a card. Writes the card's words, one for each line and two for each lead, at most 9,216,
+ * and answers how many they are. They are a card that every other call takes, its vectors those of the gate list.
+ * Refusals 1 to 5, 15, 16 and 9 of the gate list; 12 with fewer whole words of buffer than that. */
+uint64_t card_from_gates(const uint8_t *gates, size_t gates_len, uint8_t *card, size_t card_len);
 
 #ifdef __cplusplus
 }

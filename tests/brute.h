@@ -1,4 +1,4 @@
-/* brute.h: the seven calls and the program's text again, by brute force.
+/* brute.h: the calls on cards and the program's text again, by brute force; the one on gate lists is in gatesim.h.
  *
  * Written from documents 01 and 02 alone. It shares nothing with the engine and knows no marking rules:
  * what a fault does is found by putting it in and working out the whole card again.

@@ -1,16 +1,16 @@
-/* calls.h: the seven calls under one name, of the engine and of brute force. */
+/* calls.h: the eight calls under one name, of the engine and of brute force. */
 #ifndef CALLS_H
 #define CALLS_H
 
 #include <stddef.h>
 #include <stdint.h>
 
-enum call { CHECK, GOOD, FAULT, CHANGE, CRITICAL, GRADE, JOIN, CALLS };
+enum call { CHECK, GOOD, FAULT, CHANGE, CRITICAL, GRADE, JOIN, GATES, CALLS };
 
 extern const char *const call_names[CALLS];
 
 /* What a call is given. The number is a fault's or a graph's, where the call takes one. JOIN takes a
- * second card, and wire words in the place of vectors. */
+ * second card, and wire words in the place of vectors; GATES a gate list in the place of the card, and nothing else. */
 struct asked {
     enum call call;
     const uint8_t *card;

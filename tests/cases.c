@@ -1,8 +1,8 @@
 /* cases.c: fixed cases through the host's calls, with the expected answers written out.
  *
  * They are document 01's own figures where it has some; the others follow from its rules and from those of
- * document 02, worked out by hand. A card, a list of vectors, wires and the words of a buffer are written
- * as text:
+ * document 02, worked out by hand. A card, a gate list, a list of vectors, wires and the words of a buffer
+ * are written as text:
  *
  *   60000001    eight hexadecimal digits, a word       A0000001*65535   a word so many times
  *   12          fewer digits, a decimal number         +2               two leftover bytes
@@ -756,6 +756,114 @@ static const struct join_case {
     { "a longer buffer", CARD_S, CARD_S, "0", W(10240), "17: " S_ON_0 },
 };
 
+/* ---- gate lists: name, gate list, the buffer's bytes, answer ---- */
+
+#define GATE_C17 "0*5 28000002 60000000 60000002 28000002 60000002 60000003 28000002 60000001 60000006 28000002 60000006 60000004 " \
+                 "48000002 60000005 60000007 48000002 60000007 60000008"
+#define CARD_C17 "0*5 20000002 60000000 80004003 60000002 80004000 20000002 60000002 80004003 60000003 80004000 " \
+                 "20000002 60000001 80004003 60000006 80004000 20000002 60000006 80004003 60000004 80004000 " \
+                 "40000002 60000005 80004003 60000007 80004000 40000002 60000007 80004003 60000008 80004000"
+#define ONE_AND "0 0 40000002 60000000 60000001" /* five words, whose card has seven */
+
+static const struct gate_case {
+    const char *name, *gates;
+    size_t room;
+    const char *want;
+} gate_cases[] = {
+    /* each function: AND goes on at 1 and OR at 0; NAND, NOR and NOT have the other constants */
+    { "AND of one", "0 40000001 60000000", W(4), "4: 0 40000001 60000000 80000001" },
+    { "OR of one", "0 44000001 60000000", W(4), "4: 0 40000001 60000000 80000001" },
+    { "NAND of one", "0 48000001 60000000", W(4), "4: 0 40000001 60000000 80004000" },
+    { "NOR of one", "0 4C000001 60000000", W(4), "4: 0 40000001 60000000 80004000" },
+    { "NOT", "0 50000001 60000000", W(4), "4: 0 40000001 60000000 80004000" },
+    { "BUF", "0 54000001 60000000", W(4), "4: 0 40000001 60000000 80000001" },
+    { "AND of two", ONE_AND, W(7), "7: 0 0 40000002 60000000 80000003 60000001 80000001" },
+    { "OR of two", "0 0 44000002 60000000 60000001", W(7), "7: 0 0 40000002 60000000 8000C001 60000001 80000001" },
+    { "NAND of two", "0 0 48000002 60000000 60000001", W(7), "7: 0 0 40000002 60000000 80004003 60000001 80004000" },
+    { "NOR of two", "0 0 4C000002 60000000 60000001", W(7), "7: 0 0 40000002 60000000 8000C000 60000001 80004000" },
+    { "AND of three", "0 0 40000003 60000001 60000000 60000001", W(9),
+      "9: 0 0 40000003 60000001 80000003 60000000 80000004 60000001 80000001" },
+    { "OR of three", "0 0 44000003 60000001 60000000 60000001", W(9),
+      "9: 0 0 40000003 60000001 8000C001 60000000 80010001 60000001 80000001" },
+    { "NAND of three", "0 0 48000003 60000001 60000000 60000001", W(9),
+      "9: 0 0 40000003 60000001 80004003 60000000 80004004 60000001 80004000" },
+    { "NOR of three", "0 0 4C000003 60000001 60000000 60000001", W(9),
+      "9: 0 0 40000003 60000001 8000C000 60000000 80010000 60000001 80004000" },
+    { "one line twice", "0 48000002 60000000 60000000", W(6), "6: 0 40000002 60000000 80004003 60000000 80004000" },
+    { "a hidden gate, read", "0 30000001 60000000 50000001 60000001", W(7), "7: 0 20000001 60000000 80004000 40000001 60000001 80004000" },
+    { "a hidden gate that nobody reads, last", "0 50000001 60000000 30000001 60000001", W(7),
+      "7: 0 40000001 60000000 80004000 20000001 60000001 80004000" },
+    { "an input that nobody reads", "0 0 54000001 60000001", W(5), "5: 0 0 40000001 60000001 80000001" },
+    { "c17", GATE_C17, W(35), "35: " CARD_C17 },
+    { "AND of 4,096", "0 40001000 60000000*4096", W(8194), "8194: 0 obs4096" },
+    { "several gates of one line", "0 40000001 60000000 54000001 60000000 50000001 60000000", W(10),
+      "10: 0 obs1*2 40000001 60000000 80004000" },
+    { "1,024 lines, most of them inputs", "0*1023 40000001 600003FE", W(1026), "1026: " ALL_INPUTS },
+    /* each refusal */
+    { "1, 9,217 words", "0*9217", W(9300), "refused 1 0" },
+    { "2, a 1,025th line", "0*1023 40000001 60000000 40000001 60000000", W(9300), "refused 2 1025" },
+    { "3, 4,097 leads", "0 40001001 60000000*4097", W(9300), "refused 3 1" },
+    { "3, 4,096 leads after one", "0 40000001 60000000 40001000 60000000*4096", W(9300), "refused 3 3" },
+    { "4, a lead for a header", "0 60000000", W(9), "refused 4 1" },
+    { "4, an input after a gate", "0 40000001 60000000 0", W(9), "refused 4 3" },
+    { "4, a header for a lead", "0 40000002 60000000 40000001 60000000", W(9), "refused 4 3" },
+    { "4, exits for a lead", "0 40000001 80000001", W(9), "refused 4 2" },
+    { "4, the end for the first lead", "0 40000001", W(9), "refused 4 2" },
+    { "4, the end for the second lead", "0 40000002 60000000", W(9), "refused 4 3" },
+    { "4, 1 byte more", ONE_AND " +1", W(9), "refused 4 5" },
+    { "4, 2 bytes more", ONE_AND " +2", W(9), "refused 4 5" },
+    { "4, 3 bytes more", ONE_AND " +3", W(9), "refused 4 5" },
+    { "4, 3 bytes alone", "+3", W(9), "refused 4 0" },
+    { "4, the end for a lead, and 2 bytes", "0 40000001 +2", W(9), "refused 4 2" },
+    { "5, bit 0 of an input", "0 1", W(9), "refused 5 1" },
+    { "5, bit 26 of an input", "0 04000000", W(9), "refused 5 1" },
+    { "5, bit 16 of a gate", "0 40010001 60000000", W(9), "refused 5 1" },
+    { "5, bit 25 of a gate", "0 22000001 60000000", W(9), "refused 5 1" },
+    { "5, bit 16 of a lead, no inverted read here", "0 40000001 60010000", W(9), "refused 5 2" },
+    { "5, bit 28 of a lead", "0 40000001 70000000", W(9), "refused 5 2" },
+    { "9, inputs alone", "0 0", W(9), "refused 9 2" },
+    { "9, hidden gates alone", "0 20000001 60000000", W(9), "refused 9 3" },
+    { "9, no word", "", W(9), "refused 9 0" },
+    { "12, a word short", ONE_AND, W(6), "refused 12 0" },
+    { "12, a byte short", ONE_AND, W(7) - 1, "refused 12 0" },
+    { "12, no buffer", ONE_AND, 0, "refused 12 0" },
+    { "12, the gate list would fit", ONE_AND, W(5), "refused 12 0" },
+    { "1 byte of the buffer unused", ONE_AND, W(7) + 1, "7: 0 0 40000002 60000000 80000003 60000001 80000001" },
+    { "15, function 6", "0 58000001 60000000", W(9), "refused 15 1" },
+    { "15, function 7, hidden", "0 3C000001 60000000", W(9), "refused 15 1" },
+    { "15, no lead", "0 48000000", W(9), "refused 15 1" },
+    { "15, NOT without a lead", "0 50000000", W(9), "refused 15 1" },
+    { "15, NOT of two", "0 50000002 60000000 60000000", W(9), "refused 15 1" },
+    { "15, BUF of two", "0 54000002 60000000 60000000", W(9), "refused 15 1" },
+    { "16, its own line", "0 40000001 60000001", W(9), "refused 16 2" },
+    { "16, a later line", "0 40000001 60000002 40000001 60000000", W(9), "refused 16 2" },
+    { "16, at the second lead", "0 44000002 60000000 60000001", W(9), "refused 16 3" },
+    { "16, line 65,535", "0 40000001 6000FFFF", W(9), "refused 16 2" },
+    { "16, no line before", "40000001 60000000", W(9), "refused 16 1" },
+    /* orders */
+    { "1 before all", "60000000*9217 +1", 0, "refused 1 0" },
+    { "2 before 4", "0*1024 60000000", 0, "refused 2 1024" },
+    { "2 before 5", "0*1024 1", 0, "refused 2 1024" },
+    { "2 before 3", "0*1024 40001001", 0, "refused 2 1024" },
+    { "2 before 15", "0*1024 40000000", 0, "refused 2 1024" },
+    { "4 before 5 at a header", "0 40000001 60000000 1", 0, "refused 4 3" },
+    { "4 before 15 at a header", "0 80000000", 0, "refused 4 1" },
+    { "5 before 3", "0 40011001 60000000", 0, "refused 5 1" },
+    { "5 before 15", "0 58010000", 0, "refused 5 1" },
+    { "3 before 15, function 6", "0 58001001 60000000", 0, "refused 3 1" },
+    { "3 before 15, NOT of 4,097", "0 50001001 60000000", 0, "refused 3 1" },
+    { "15 before 4 at its lead", "0 58000001 80000000", 0, "refused 15 1" },
+    { "15 before 16", "0 58000001 60000001", 0, "refused 15 1" },
+    { "4 before 5 at a lead", "0 40000001 80010000", 0, "refused 4 2" },
+    { "4 before 16", "0 40000001 80000001", 0, "refused 4 2" },
+    { "5 before 16", "0 40000001 60010001", 0, "refused 5 2" },
+    { "16, then 15", "0 40000001 60000001 58000001", 0, "refused 16 2" },
+    { "16 before bytes", "0 40000001 60000001 +1", 0, "refused 16 2" },
+    { "bytes before 9", "0 20000001 60000000 +1", 0, "refused 4 3" },
+    { "bytes before 12", ONE_AND " +3", 0, "refused 4 5" },
+    { "9 before 12", "0 20000001 60000000", 0, "refused 9 3" },
+};
+
 /* ---- words out of text ---- */
 
 enum { ROOM_WORDS = 64 * 65536 + 16 };
@@ -1024,6 +1132,15 @@ static void run_joins(void)
     }
 }
 
+static void run_gates(void)
+{
+    for (size_t i = 0; i < sizeof gate_cases / sizeof *gate_cases; i++) {
+        const struct gate_case *c = gate_cases + i;
+        struct asked a = { .call = GATES };
+        each_list(c->name, &a, c->gates, "", c->room, 0, c->want);
+    }
+}
+
 /* The longest lists: vectors of 64 words for 1,023 inputs, all of them 1, 65,536 of them in 16 MiB. The
  * graph reads the last input, so of the 2,050 faults the node's 0-exit (0) and the two graphs held at 0
  * on its way (2,046 and 2,048) are caught; the input is a lead, so two of them count. A word that is wrong
@@ -1065,6 +1182,7 @@ int main(void)
     run_calls();
     run_gradings();
     run_joins();
+    run_gates();
     run_longest_lists();
     differ += run_astray(&cases);
     printf("cases: %u cases, %u differ\n", cases, differ);

@@ -91,7 +91,7 @@ static void show_difference(const struct asked *a, uint64_t got, uint64_t want)
            (unsigned long long)(got & 0xFFFFFFFFu), (unsigned long long)(want >> 32), (unsigned long long)(want & 0xFFFFFFFFu));
     show_buffer("buffer", &buffer);
     show_buffer("tallies", &tallies);
-    show_part("card", &card);
+    show_part(a->call == GATES ? "gates" : "card", &card);
     show_part("second card", &second);
     show_part(a->call == JOIN ? "wires" : "vectors", &vectors);
 }

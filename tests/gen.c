@@ -1,6 +1,8 @@
 /* gen.c: see gen.h. */
 #include "gen.h"
 
+#include "gatesim.h"
+
 #include <string.h>
 
 enum { MAX_GRAPHS = 1024, MAX_NODES = 4096, MAX_WORDS = 9216, NONE = 0xFFFF };
@@ -295,6 +297,108 @@ void gen_limit_pair(struct input *a, struct input *b, unsigned number)
     }
 }
 
+/* ---- gate lists ---- */
+
+static void put_gate_inputs(struct input *in, unsigned count)
+{
+    pick_style();
+    put_inputs(in, count);
+}
+
+static void put_gate(struct input *in, unsigned function, unsigned n, int observable)
+{
+    put(in, (observable ? 0x40000000u : 0x20000000u) + (function << 26) + n);
+    for (unsigned k = 0; k < n; k++)
+        put(in, 0x60000000u + pick_read(in->graphs));
+    in->graphs++;
+    in->nodes += n;
+}
+
+/* Any function that takes so many leads: from NOT on they take one. */
+static void put_any_gate(struct input *in, unsigned n, int observable)
+{
+    put_gate(in, gen_below(n == 1 ? FUNCTIONS : NOT), n, observable);
+}
+
+void gen_small_gates(struct input *in)
+{
+    static const unsigned sizes[] = { 1, 2, 2, 3, 5 };
+    int wide = gen_chance(12);
+    unsigned gates = gen_below(wide ? 60 : 20), size = one_of(sizes, 5) + (wide ? 10 : 0);
+    put_gate_inputs(in, wide ? 7 + gen_below(30) : 1 + gen_below(6));
+    for (unsigned i = 0; i < gates; i++)
+        put_any_gate(in, 1 + gen_below(size), i + 1 < gates && gen_chance(style.observe));
+    put_any_gate(in, 1 + gen_below(size), 1);
+    if (gen_chance(20)) /* a hidden gate last */
+        put_any_gate(in, 1 + gen_below(size), 0);
+}
+
+/* So many lines with so many leads in all, spread at random. */
+static void put_gates(struct input *in, unsigned lines, unsigned leads)
+{
+    for (unsigned left = lines - in->graphs; left > 0; left--) {
+        unsigned most = leads - (left - 1), n = left == 1 ? leads : 1 + gen_below(2 * (leads / left));
+        if (n > most)
+            n = most;
+        put_any_gate(in, n, left < 3 || gen_chance(3));
+        leads -= n;
+    }
+}
+
+static void gates_at_limits(struct input *in, unsigned lines, unsigned leads)
+{
+    put_gate_inputs(in, limit_inputs());
+    put_gates(in, lines, leads);
+}
+
+static void few_gates(struct input *in, unsigned leads)
+{
+    put_gate_inputs(in, 1 + gen_below(40));
+    put_gates(in, in->graphs + 1 + gen_below(60), leads);
+}
+
+static void one_large_gate(struct input *in, unsigned n)
+{
+    put_gate_inputs(in, 1 + gen_below(1023));
+    put_any_gate(in, n, 1);
+}
+
+/* Each gate reads the line below it. */
+static void chain_of_gates(struct input *in)
+{
+    put_gate_inputs(in, 1);
+    for (unsigned i = 0; i < 1023; i++) {
+        put_gate(in, gen_below(FUNCTIONS), 1, i == 1022);
+        in->card[in->card_words - 1] = 0x60000000u + i;
+    }
+}
+
+static const uint32_t odd_gate_words[] = { 0, 1, 0x20000001, 0x28000002, 0x40000001, 0x40010001, 0x42000001, 0x40000000,
+                                           0x50000001, 0x50000002, 0x54000001, 0x54000000, 0x58000001, 0x5C000002,
+                                           0x40001000, 0x48001001, 0x4C00FFFF, 0x60000000, 0x60000001, 0x60010000,
+                                           0x70000000, 0x6000FFFF, 0x80000001, 0xA0000000, 0xC0000000, 0xFFFFFFFF };
+enum { ODD_GATE_WORDS = sizeof odd_gate_words / sizeof *odd_gate_words };
+
+void gen_limit_gates(struct input *in, unsigned number)
+{
+    switch (number % GEN_GATE_SHAPES) {
+    case 0: gates_at_limits(in, 1024, 4096); break;
+    case 1: gates_at_limits(in, 1024, 2048 + gen_below(2048)); break;
+    case 2: few_gates(in, 4096); break;
+    case 3: one_large_gate(in, 4096); break;
+    case 4: chain_of_gates(in); break;
+    case 5: gates_at_limits(in, 1023, 4095); break;
+    case 6: gates_at_limits(in, 1025, 2048 + gen_below(2048)); break;
+    case 7: few_gates(in, 4097); break;
+    case 8: one_large_gate(in, 4097); break;
+    case 9: gates_at_limits(in, 1025, 4097); break;
+    default: /* too many words, whatever they are */
+        gates_at_limits(in, 1024, 4096);
+        while (in->card_words < MAX_WORDS + 1)
+            put(in, odd_gate_words[gen_below(ODD_GATE_WORDS)]);
+    }
+}
+
 /* ---- spoiling ---- */
 
 static uint32_t changed(uint32_t w)
@@ -353,6 +457,41 @@ void gen_spoil_card(struct input *in)
             in->card[at] = changed(in->card[at]);
     }
     if (gen_chance(10))
+        in->card_odd = 1 + gen_below(3);
+}
+
+/* A word of a gate list with another kind, function, number or line, a bit more, or any other word. */
+static uint32_t changed_gate(uint32_t w, unsigned lines)
+{
+    switch (gen_below(8)) {
+    case 0: return (w & 0x1FFFFFFFu) + (gen_below(8) << 29);
+    case 1: return (w & 0xE3FFFFFFu) + (gen_below(8) << 26);
+    case 2: return w ^ 1u << (16 + gen_below(13));
+    case 3: return w ^ 1u << gen_below(16);
+    case 4: return (w & 0xFFFF0000u) + gen_below(4);
+    case 5: return (w & 0xFFFF0000u) + lines - 2 + gen_below(4);
+    case 6: return changed(w);
+    default: return odd_gate_words[gen_below(ODD_GATE_WORDS)];
+    }
+}
+
+void gen_spoil_gates(struct input *in)
+{
+    size_t n = in->card_words, at = gen_below((uint32_t)n + 1);
+    switch (gen_below(9)) {
+    case 0: in->card_words = at; break;
+    case 1: insert(in->card, &in->card_words, GEN_CARD_ROOM, at, odd_gate_words[gen_below(ODD_GATE_WORDS)]); break;
+    case 2:
+        if (at < n)
+            cut_out(in->card, &in->card_words, at);
+        break;
+    case 3: put(in, odd_gate_words[gen_below(ODD_GATE_WORDS)]); break;
+    case 4: hide_all(in); break;
+    default:
+        if (at < n)
+            in->card[at] = changed_gate(in->card[at], in->graphs);
+    }
+    if (gen_chance(15))
         in->card_odd = 1 + gen_below(3);
 }
 

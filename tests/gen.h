@@ -1,4 +1,4 @@
-/* gen.h: generated cards and vectors, right ones and spoilt ones. The same seed gives the same inputs. */
+/* gen.h: generated cards, gate lists and vectors, right ones and spoilt ones. The same seed gives the same inputs. */
 #ifndef GEN_H
 #define GEN_H
 
@@ -14,7 +14,7 @@ struct input {
     uint32_t vectors[GEN_VECTOR_ROOM];
     size_t vector_words;
     unsigned vectors_odd;
-    unsigned inputs, graphs, nodes; /* as meant, before anything was spoilt */
+    unsigned inputs, graphs, nodes; /* as meant, before anything was spoilt; of a gate list the lines and the leads */
 };
 
 void gen_seed(uint64_t seed);
@@ -40,9 +40,18 @@ void gen_vectors(struct input *in, unsigned count);
  * the place of its vectors. */
 void gen_wires(struct input *in, unsigned graphs, unsigned free);
 
+/* A small odd gate list, in the place of a card: gates of one lead and of several, a line twice in one gate, gates that
+ * nobody reads, observable gates with readers. One in eight is wider, with vectors of up to three words. */
+void gen_small_gates(struct input *in);
+
+/* A gate list at a limit, or one beyond it. Shapes go round with the number. */
+enum { GEN_GATE_SHAPES = 11 };
+void gen_limit_gates(struct input *in, unsigned number);
+
 void gen_spoil_card(struct input *in);
 void gen_spoil_vectors(struct input *in);
 void gen_spoil_wires(struct input *in, unsigned graphs);
+void gen_spoil_gates(struct input *in);
 
 /* Words as bytes, with leftover bytes after them; the number of bytes. */
 size_t gen_bytes(const uint32_t *words, size_t count, unsigned odd, uint8_t *bytes);

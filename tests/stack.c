@@ -1,4 +1,4 @@
-/* stack.c: how much stack the calls use, on the largest cards. Each call runs in a thread of its own
+/* stack.c: how much stack the calls use, on the largest cards and gate lists. Each call runs in a thread of its own
  * whose stack was filled with one byte before; what is still that byte afterwards was not used. Fails
  * where a call uses more than cardhost.h says.
  */
@@ -113,6 +113,22 @@ static void join_itself(unsigned inputs, unsigned graphs)
     take_in(&a);
 }
 
+/* So many inputs, then observable NANDs of n leads, which name the line below. */
+static void turn_gates(unsigned inputs, unsigned gates, unsigned n)
+{
+    struct asked a = { .call = GATES, .card = card };
+    words = 0;
+    for (unsigned i = 0; i < inputs; i++)
+        put(0);
+    for (unsigned i = 0; i < gates; i++) {
+        put(0x48000000u + n);
+        for (unsigned k = 0; k < n; k++)
+            put(0x60000000u + inputs + i - 1);
+    }
+    a.card_len = 4 * words;
+    take_in(&a);
+}
+
 int main(void)
 {
     size_t all = 0;
@@ -126,6 +142,9 @@ int main(void)
     join_itself(512, 768);
     make_card(1, 1, 2048);
     join_itself(1, 2);
+    turn_gates(512, 512, 8); /* both limits, and a card with all three */
+    turn_gates(1, 1023, 4);
+    turn_gates(1, 1, 4096);
     printf("stack:");
     for (int call = CHECK; call < CALLS; call++) {
         printf(" %s %zu", call_names[call], most[call]);

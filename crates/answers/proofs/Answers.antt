@@ -7,6 +7,7 @@ use lib.ListN.{getD}
 use Rattle.answers.specs.declared.Rule.{Rule}
 use Rattle.answers.specs.declared.Rule.the-variants.{CardTooLong, TooManyGraphs, NodeCount, WordNotDue, StrayBit, ReadNotBelow, ExitNotLater}
 use Rattle.answers.specs.declared.Rule.the-variants.{NodeNotNamed, NothingObservable, VectorForm, NumberTooHigh, BufferTooShort, WireForm, JoinedTooLarge}
+use Rattle.answers.specs.declared.Rule.the-variants.{GateForm, LeadNotEarlier}
 use Rattle.answers.specs.declared.Answer.{Answer}
 use Rattle.answers.specs.declared.Answer.the-variants as answer
 use Rattle.answers.specs.declared.Reply.{Reply}
@@ -18,7 +19,7 @@ abbrev rules : List Rule
 rules =
     CardTooLong ∷ TooManyGraphs ∷ NodeCount ∷ WordNotDue ∷ StrayBit ∷ ReadNotBelow
     ∷ ExitNotLater ∷ NodeNotNamed ∷ NothingObservable ∷ VectorForm ∷ NumberTooHigh ∷ BufferTooShort
-    ∷ WireForm ∷ JoinedTooLarge ∷ []
+    ∷ WireForm ∷ JoinedTooLarge ∷ GateForm ∷ LeadNotEarlier ∷ []
 
 abbrev ruleOf : ℕ → Rule
 ruleOf n = getD rules (n - 1) CardTooLong
@@ -39,6 +40,8 @@ rule-of NumberTooHigh = refl
 rule-of BufferTooShort = refl
 rule-of WireForm = refl
 rule-of JoinedTooLarge = refl
+rule-of GateForm = refl
+rule-of LeadNotEarlier = refl
 
 -- and no rule has the number 0
 pub number-some : (r : Rule) → 0 < numberOf r

@@ -11,7 +11,7 @@ use Rattle.answers.specs.declared.Answer.{Answer}
 use Rattle.answers.specs.declared.Answer.the-variants as answer
 use Rattle.answers.specs.declared.Reply.the-variants as reply
 use Rattle.answers.specs.Tests.{Test, firstBroken, onward}
-use Rattle.answers.specs.Calls.{opened, callTests, replied, written}
+use Rattle.answers.specs.Calls.{opened, callTests, doneBy, replied, written}
 
 pub not-accepted : {r : Rule} {p : ℕ} {c : Counts} → answer.Refused r p ≡ answer.Accepted c → ⊥
 not-accepted e = let z : _≡_ {A = ℕ} 0 1 = cc in omega arith
@@ -65,6 +65,34 @@ module _ (a : Answer) (form : Counts → Verdict) (own : Counts → List Test) (
     pub call-done : firstBroken (own c) ≡ Sound → (reply.Done (number c) ≡ replied a (tests form own) number) × (after c ≡ written a (tests form own) after before)
     unfolding replied written
     call-done q = let (h, u) = opened-accepted a form e in (rw (h, u, q), rw (h, u, q))
+
+-- a call that is done: its verdict was sound, and the number is the one told
+pub not-done : {r : Rule} {p n : ℕ} → reply.Refused r p ≡ reply.Done n → ⊥
+not-done e = let z : _≡_ {A = ℕ} 0 1 = cc in omega arith
+
+pub done-sound : (v : Verdict) (m : ℕ) {n : ℕ} → doneBy v m ≡ reply.Done n → (v ≡ Sound) × (n ≡ m)
+done-sound Sound m e = (refl, cc)
+done-sound (Broken r p) m e = absurd (not-done e)
+
+-- so its card, or what stands for it, was accepted, and the tests passed
+pub record Went (a : Answer) (tests : Counts → Verdict) (number : Counts → ℕ) (n : ℕ) : Type 0 where
+  pub counted : Counts
+  pub accepted : a ≡ answer.Accepted counted
+  pub passed : tests counted ≡ Sound
+  pub told : n ≡ number counted
+
+pub call-went : (a : Answer) (tests : Counts → Verdict) (number : Counts → ℕ) {n : ℕ} → replied a tests number ≡ reply.Done n → Went a tests number n
+unfolding replied
+call-went (answer.Accepted c) tests number e =
+    let (s, t) = done-sound (tests c) (number c) e in
+    record { counted = c; accepted = refl; passed = s; told = t }
+call-went (answer.Refused r p) tests number e = absurd (not-done e)
+
+-- and its buffer is the one that it leaves
+pub call-left : (a : Answer) (tests : Counts → Verdict) (number : Counts → ℕ) (after : Counts → List ℕ) (before : List ℕ) {n : ℕ}
+    → (w : Went a tests number n) → written a tests after before ≡ after (w .counted)
+unfolding written
+call-left a tests number after before w = rw (w .accepted, w .passed)
 
 -- the same of a call with two buffers
 module _ (a : Answer) (form : Counts → Verdict) (own : Counts → List Test) (number : Counts → ℕ) (one : Counts → List ℕ) (b : List ℕ) (two : Counts → List ℕ) (d : List ℕ) where

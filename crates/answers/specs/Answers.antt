@@ -5,6 +5,7 @@ use mathlib.Core.List.{List, [], _∷_}
 use Rattle.answers.specs.declared.Rule.{Rule}
 use Rattle.answers.specs.declared.Rule.the-variants.{CardTooLong, TooManyGraphs, NodeCount, WordNotDue, StrayBit, ReadNotBelow, ExitNotLater}
 use Rattle.answers.specs.declared.Rule.the-variants.{NodeNotNamed, NothingObservable, VectorForm, NumberTooHigh, BufferTooShort, WireForm, JoinedTooLarge}
+use Rattle.answers.specs.declared.Rule.the-variants.{GateForm, LeadNotEarlier}
 use Rattle.answers.specs.declared.Counts.{Counts}
 use Rattle.answers.specs.declared.Answer.{Answer}
 use Rattle.answers.specs.declared.Answer.the-variants as answer
@@ -27,6 +28,8 @@ numberOf NumberTooHigh = 11
 numberOf BufferTooShort = 12
 numberOf WireForm = 13
 numberOf JoinedTooLarge = 14
+numberOf GateForm = 15
+numberOf LeadNotEarlier = 16
 
 -- WHAT A CALL BY WORDS TELLS, in document 01's numbers: a refusal's number and position and no values, or values and both numbers 0. The words of a
 -- lent buffer have an equation of their own.
@@ -51,8 +54,8 @@ unfolding numberOf
 answerTold (answer.Accepted c) = result (valuesOf c)
 answerTold (answer.Refused rule position) = refusal (numberOf rule) position
 
--- any other call tells one number, or its refusal: the length of a change list, the marked count of a grading, the number of words of a joined card,
--- else 0
+-- any other call tells one number, or its refusal: the length of a change list, the marked count of a grading, the number of words of a joined card
+-- or of the card of a gate list, else 0
 unfoldable pub replyTold : Reply → Told
 unfolding numberOf
 replyTold (reply.Done number) = result (number ∷ [])

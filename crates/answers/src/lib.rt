@@ -19,6 +19,8 @@ pub enum Rule {
     BufferTooShort,
     WireForm,
     JoinedTooLarge,
+    GateForm,
+    LeadNotEarlier,
 }
 
 // The numbers that a check answers.
@@ -37,7 +39,7 @@ pub enum Answer {
 }
 
 // The reply of a call that works on cards: done, with the number that it tells beside its buffers (the length of a change list, the marked
-// count of a grading, the number of words of a joined card, else 0); or refused, as a check is.
+// count of a grading, the number of words of a joined card or of the card of a gate list, else 0); or refused, as a check is.
 pub enum Reply {
     Done(usize),
     Refused(Rule, usize),
@@ -68,5 +70,7 @@ pub fn rule_number(rule: Rule) -> u32
         Rule::BufferTooShort => 12,
         Rule::WireForm => 13,
         Rule::JoinedTooLarge => 14,
+        Rule::GateForm => 15,
+        Rule::LeadNotEarlier => 16,
     }
 }

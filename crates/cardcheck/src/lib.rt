@@ -37,9 +37,8 @@ enum Graph {
 }
 
 // An input's header.
-fn check_input(w: u32, at: usize, c: Counts) -> Verdict
-    requires { ⌜ (at ≡ place c) × (c .nodes ≤ 4096) ⌝ }
-    ensures { λ r. ⌜ r ≡ firstBroken (inputTests w c) ⌝ }
+pub fn check_input(w: u32, at: usize, c: Counts) -> Verdict
+    ensures { λ r. ⌜ r ≡ firstBroken (inputTests w at c) ⌝ }
 {
     if c.inputs < c.graphs {
         return Verdict::Broken(Rule::WordNotDue, at);
@@ -96,7 +95,7 @@ fn is_kind(w: u32, k: u32) -> usize
 }
 
 // The counts with one graph more, whose header is w.
-fn with_graph(w: u32, c: Counts) -> Counts
+pub fn with_graph(w: u32, c: Counts) -> Counts
     requires { ⌜ Few c ⌝ }
     ensures { λ r. ⌜ r ≡ withGraph w c ⌝ }
 {
@@ -114,7 +113,7 @@ fn with_graph(w: u32, c: Counts) -> Counts
 }
 
 // The words end after the graphs that c counts; len is how many they are.
-fn finish(len: usize, extra: usize, c: Counts) -> Answer
+pub fn finish(len: usize, extra: usize, c: Counts) -> Answer
     ensures { λ r. ⌜ EndTold len extra c r ⌝ }
 {
     if 0 < extra {

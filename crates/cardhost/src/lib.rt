@@ -7,6 +7,7 @@ ghost use Rattle.hostvalues.specs.Calls.{valuesAnswer, valuesBytes};
 ghost use Rattle.hostchanges.specs.Calls.{changeAnswer, changeBytes, criticalAnswer, criticalBytes};
 ghost use Rattle.hostgrade.specs.Calls.{gradeAnswer, markBytes, tallyBytes};
 ghost use Rattle.hostjoin.specs.Calls.{joinAnswer, joinBytes};
+ghost use Rattle.hostgates.specs.Calls.{fromGatesAnswer, fromGatesBytes};
 
 // Check: the numbers of inputs, graphs, nodes, observable graphs and faults, in a buffer of at least five words.
 #[no_mangle]
@@ -81,4 +82,13 @@ pub extern "C" fn card_join(a: &[u8], b: &[u8], wires: &[u8], card: &mut [u8]) -
         × (now (card .exit) ≡ joinBytes (now (a .entry)) (now (b .entry)) (now (wires .entry)) (now (card .entry))) ⌝ }
 {
     hostjoin::join(a, b, wires, card)
+}
+
+// A gate list turned into a card: the number of the card's words, which stand in the front of the buffer.
+#[no_mangle]
+pub extern "C" fn card_from_gates(gates: &[u8], card: &mut [u8]) -> u64
+    ensures { λ r. ⌜ (r ≡ fromGatesAnswer (now (gates .entry)) (now (card .entry)))
+        × (now (card .exit) ≡ fromGatesBytes (now (gates .entry)) (now (card .entry))) ⌝ }
+{
+    hostgates::from_gates(gates, card)
 }

@@ -24,7 +24,7 @@ use Rattle.form.proofs.Checked.{check-accepts}
 use Rattle.form.proofs.Sound.{upTo, accepted-sound}
 
 -- a word due, a read, and exits that stand in another card already
-due-sound : (ws : List ℕ) (p k : ℕ) (ts : List Test) → p < length ws → kind (word ws p) ≡ k → Passed ts → firstBroken (due ws p k ts) ≡ Sound
+pub due-sound : (ws : List ℕ) (p k : ℕ) (ts : List Test) → p < length ws → kind (word ws p) ≡ k → Passed ts → firstBroken (due ws p k ts) ≡ Sound
 due-sound ws p k ts l e t = passed-sound (due ws p k ts) (lt-leb (length ws) p l, (agree (kind (word ws p)) k e, t))
 
 read-sound : (ws : List ℕ) (g p : ℕ) → Read ws g p → readVerdict ws g p ≡ Sound

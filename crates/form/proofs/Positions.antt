@@ -34,7 +34,7 @@ module _ (n : ℕ) where
   LowTests [] = Unit {0}
   LowTests (t ∷ ts) = (t .position ≤ n) × LowTests ts
 
-  unless-low : (b : Bool) (u v : Verdict) → Low u → (b ≡ false → Low v) → Low (unless b u v)
+  pub unless-low : (b : Bool) (u v : Verdict) → Low u → (b ≡ false → Low v) → Low (unless b u v)
   unless-low true u v p q = p
   unless-low false u v p q = q refl
 
@@ -52,7 +52,7 @@ module _ (n : ℕ) where
 
   -- a card of at most n words
   module _ (ws : List ℕ) (short : length ws ≤ n) where
-    due-low : (p k : ℕ) (a b : Bool) (r s : Rule) → Low (firstBroken (due ws p k (test a r p ∷ test b s p ∷ [])))
+    pub due-low : (p k : ℕ) (a b : Bool) (r s : Rule) → Low (firstBroken (due ws p k (test a r p ∷ test b s p ∷ [])))
     due-low p k a b r s =
         unless-low (leb (length ws) p) _ _ short (λ e.
         let l : p ≤ n = omega (arith, leb-false (length ws) p e) in
@@ -73,9 +73,9 @@ module _ (n : ℕ) where
     unfolding headerVerdict
     header-low w c h =
         let few = test (leb 1024 (c .graphs)) TooManyGraphs (place c) ∷ [] in
-        then-low (firstBroken few) (unless (eqb (kind w) 0) (firstBroken (inputTests w c)) (firstBroken (outputTests w c))) (tests-low few (h, tt))
-        (λ e. unless-low (eqb (kind w) 0) (firstBroken (inputTests w c)) (firstBroken (outputTests w c))
-        (tests-low (inputTests w c) (h, (h, tt))) (λ e. tests-low (outputTests w c) (h, (h, (h, tt)))))
+        then-low (firstBroken few) (unless (eqb (kind w) 0) (firstBroken (inputTests w (place c) c)) (firstBroken (outputTests w c))) (tests-low few (h, tt))
+        (λ e. unless-low (eqb (kind w) 0) (firstBroken (inputTests w (place c) c)) (firstBroken (outputTests w c))
+        (tests-low (inputTests w (place c) c) (h, (h, tt))) (λ e. tests-low (outputTests w c) (h, (h, (h, tt)))))
 
     graph-low : (c : Counts) → place c ≤ n → Low (graphVerdict ws c)
     unfolding graphVerdict
@@ -85,7 +85,7 @@ module _ (n : ℕ) where
         (nodes-low (c .graphs) (place c) (nodeCount (word ws (place c))) (nodeCount (word ws (place c))) 0)
         (λ e. tests-low (test (unnamed ws (place c) (nodeCount (word ws (place c)))) NodeNotNamed (place c) ∷ []) (h, tt)))
 
-    either-low : (b : Bool) (a a′ : Answer) → LowAnswer a → LowAnswer a′ → LowAnswer (either ws b a a′)
+    pub either-low : (b : Bool) (a a′ : Answer) → LowAnswer a → LowAnswer a′ → LowAnswer (either ws b a a′)
     either-low true a a′ p q = p
     either-low false a a′ p q = q
 

@@ -19,7 +19,7 @@ use Rattle.form.specs.Check.{due, place, inputTests, outputTests, header
 
 -- a sound header w: of an input it is all zero, of an output it counts some nodes and not too many
 module _ (w : ℕ) (c : Counts) (e : headerVerdict w c ≡ Sound) where
-  pub header-sound : (c .graphs < 1024) × (unless (eqb (kind w) 0) (firstBroken (inputTests w c)) (firstBroken (outputTests w c)) ≡ Sound)
+  pub header-sound : (c .graphs < 1024) × (unless (eqb (kind w) 0) (firstBroken (inputTests w (place c) c)) (firstBroken (outputTests w c)) ≡ Sound)
   unfolding headerVerdict
   header-sound =
       let few = test (leb 1024 (c .graphs)) TooManyGraphs (place c) ∷ [] in
@@ -28,7 +28,7 @@ module _ (w : ℕ) (c : Counts) (e : headerVerdict w c ≡ Sound) where
 
   pub an-input : eqb (kind w) 0 ≡ true → (c .graphs ≤ c .inputs) × (nodeCount w ≡ 0)
   an-input z =
-      let t = all-passed (inputTests w c) (rw z at (header-sound .1)) in
+      let t = all-passed (inputTests w (place c) c) (rw z at (header-sound .1)) in
       (ltb-false (c .inputs) (c .graphs) (t .0), omega (arith, eqb-true (kind w) 0 z, eqb-true (inputSpare w) 0 (not-false _ (t .1 .0))))
 
   pub an-output : eqb (kind w) 0 ≡ false → (0 < nodeCount w) × (c .nodes + nodeCount w ≤ 4096)

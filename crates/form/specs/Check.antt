@@ -30,11 +30,11 @@ abbrev pub withGraph : ℕ → Counts → Counts
 withGraph w c =
     counts (c .inputs + choose (eqb (kind w) 0) 1 0) (c .graphs + 1) (c .nodes + nodeCount w) (c .observable + choose (eqb (kind w) 2) 1 0)
 
--- the tests of a header w: of an input, of an output, and of either
-abbrev pub inputTests : ℕ → Counts → List Test
-inputTests w c =
-    test (ltb (c .inputs) (c .graphs)) WordNotDue (place c)
-    ∷ test (not (eqb (inputSpare w) 0)) StrayBit (place c)
+-- the tests of a header w: of an input, which stands at p, of an output, and of either
+abbrev pub inputTests : ℕ → ℕ → Counts → List Test
+inputTests w p c =
+    test (ltb (c .inputs) (c .graphs)) WordNotDue p
+    ∷ test (not (eqb (inputSpare w) 0)) StrayBit p
     ∷ []
 
 abbrev pub outputTests : ℕ → Counts → List Test
@@ -47,7 +47,7 @@ outputTests w c =
 unfoldable pub headerVerdict : ℕ → Counts → Verdict
 headerVerdict w c =
     andThen (firstBroken (test (leb 1024 (c .graphs)) TooManyGraphs (place c) ∷ []))
-    (unless (eqb (kind w) 0) (firstBroken (inputTests w c)) (firstBroken (outputTests w c)))
+    (unless (eqb (kind w) 0) (firstBroken (inputTests w (place c) c)) (firstBroken (outputTests w c)))
 
 -- exit e of local node k in a graph of n nodes is no constant, and goes to a node not later, or not in the graph
 unfoldable pub misplaced : ℕ → ℕ → ℕ → Bool

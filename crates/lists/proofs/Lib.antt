@@ -5,3 +5,4 @@ pub mod Net
 pub mod Tables
 pub mod Each
 pub mod Front
+pub mod Chain

@@ -24,6 +24,11 @@ grow b (suc g) = one-more b g (grow b g)
 abbrev pub tab : (ℕ → ℕ) → ℕ → List ℕ
 tab f n = grow (λ v. f) n
 
+-- the lists f 0, f 1, .., f (n - 1), one after the other
+unfoldable pub chain : (ℕ → List ℕ) → ℕ → List ℕ
+chain f zero = []
+chain f (suc n) = chain f n ++ f n
+
 -- THE BUFFER FORM: the first n words are f 0 to f (n - 1), the rest as they were
 abbrev pub over : ℕ → (ℕ → ℕ) → List ℕ → List ℕ
 over n f buffer = tab f n ++ drop n buffer

@@ -2,16 +2,16 @@
 use Prim.Native.Nat.{ℕ, _+_}
 use mathlib.Core.Path.{_≡_, refl}
 use mathlib.Core.List.{List}
-use native.Mathlib.Omega.{arith}
 use Rattle.answers.specs.declared.Rule.{Rule}
 use Rattle.answers.specs.declared.Counts.{Counts}
 use Rattle.answers.specs.declared.Verdict.{Verdict}
-use Rattle.answers.specs.declared.Verdict.the-variants.{Sound, Broken}
+use Rattle.answers.specs.declared.Verdict.the-variants.{Sound}
 use Rattle.answers.specs.declared.Answer.{Answer}
 use Rattle.answers.specs.declared.Answer.the-variants as answer
 use Rattle.answers.specs.declared.Reply.{Reply}
 use Rattle.answers.specs.declared.Reply.the-variants as reply
 use Rattle.answers.specs.Calls.{doneBy, leftBy}
+use Rattle.answers.proofs.Calls.{not-done, done-sound}
 use Rattle.wiring.specs.Calls.{countedOn, repliedBoth, writtenBoth}
 
 module _ (a b : Answer) (n : ℕ) (tests : Counts → Counts → Verdict) (number : Counts → Counts → ℕ) (after : Counts → Counts → List ℕ) (before : List ℕ) where
@@ -39,13 +39,6 @@ pub record Went (a b : Answer) (tests : Counts → Counts → Verdict) (number :
   pub second-accepted : b ≡ answer.Accepted second
   pub passed : tests first second ≡ Sound
   pub told : n ≡ number first second
-
-not-done : {r : Rule} {p n : ℕ} → reply.Refused r p ≡ reply.Done n → ⊥
-not-done e = let z : _≡_ {A = ℕ} 0 1 = cc in omega arith
-
-done-sound : (v : Verdict) (m : ℕ) {n : ℕ} → doneBy v m ≡ reply.Done n → (v ≡ Sound) × (n ≡ m)
-done-sound Sound m e = (refl, cc)
-done-sound (Broken r p) m e = absurd (not-done e)
 
 pub both-done : (a b : Answer) (k : ℕ) (tests : Counts → Counts → Verdict) (number : Counts → Counts → ℕ) {n : ℕ}
     → repliedBoth a (countedOn k b) tests number ≡ reply.Done n → Went a b tests number n

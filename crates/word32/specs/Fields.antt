@@ -1,5 +1,5 @@
 -- The fields of a 32-bit word, by division and remainder. Bit 0 is the lowest. Assumes nothing.
-use Prim.Native.Nat.{ℕ, zero, suc, _+_, _-_, _/_, _%_, _^_}
+use Prim.Native.Nat.{ℕ, zero, suc, _+_, _-_, _*_, _/_, _%_, _^_}
 
 -- bits 31..29: what kind of word it is
 abbrev pub kind : ℕ → ℕ
@@ -41,6 +41,30 @@ withRead w g = w - readGraph w + g
 abbrev pub exitOf : ℕ → ℕ → ℕ
 exitOf w zero = w / 2 ^ 14 % 2 ^ 14
 exitOf w (suc d) = w % 2 ^ 14
+
+-- a header of kind k that counts n, below 2 ^ 16; and a pair of exits, each below 2 ^ 14: e at decision 0, d at decision 1
+abbrev pub headerWord : ℕ → ℕ → ℕ
+headerWord k n = k * 2 ^ 29 + n
+
+abbrev pub exitsWord : ℕ → ℕ → ℕ
+exitsWord e d = 4 * 2 ^ 29 + e * 2 ^ 14 + d
+
+-- IN A GATE LIST. Of a gate's header: its function, bits 28..26; bits 25..16, which must be zero; how many leads follow, bits 15..0
+abbrev pub gateFunction : ℕ → ℕ
+gateFunction w = w / 2 ^ 26 % 2 ^ 3
+
+abbrev pub gateSpare : ℕ → ℕ
+gateSpare w = w / 2 ^ 16 % 2 ^ 10
+
+abbrev pub leadCount : ℕ → ℕ
+leadCount w = w % 2 ^ 16
+
+-- Of a lead: bits 28..16, which must be zero; and which line it names, bits 15..0
+abbrev pub leadSpare : ℕ → ℕ
+leadSpare w = w / 2 ^ 16 % 2 ^ 13
+
+abbrev pub leadLine : ℕ → ℕ
+leadLine w = w % 2 ^ 16
 
 -- bit i
 abbrev pub bitOf : ℕ → ℕ → ℕ

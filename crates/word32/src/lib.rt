@@ -4,6 +4,7 @@ ghost use Prim.Native.Nat.{_+_, _*_, _/_, _<_, _≤_};
 ghost use lib.ListN.{length};
 ghost use Rattle.lists.specs.Tables.{over};
 ghost use Rattle.word32.specs.Fields.{kind, inputSpare, headerSpare, readSpare, exitsSpare, nodeCount, readGraph, readInverted, withRead, exitOf, bitOf};
+ghost use Rattle.word32.specs.Fields.{headerWord, exitsWord, gateFunction, gateSpare};
 ghost use Rattle.word32.specs.Bytes.{wordAt, setWord, byteOf};
 
 // Bits 31..29: what kind of word it is.
@@ -82,6 +83,36 @@ pub fn exit1(w: u32) -> usize
     ensures { λ r. ⌜ r ≡ exitOf w 1 ⌝ }
 {
     (w & 0x3FFF) as usize
+}
+
+// A header of kind k that counts n.
+pub fn header_word(k: u32, n: usize) -> u32
+    requires { ⌜ (k < 8) × (n < 65536) ⌝ }
+    ensures { λ r. ⌜ r ≡ headerWord k n ⌝ }
+{
+    k * 0x2000_0000 + n as u32
+}
+
+// A pair of exits: e0 at decision 0, e1 at decision 1.
+pub fn exits_word(e0: usize, e1: usize) -> u32
+    requires { ⌜ (e0 < 16384) × (e1 < 16384) ⌝ }
+    ensures { λ r. ⌜ r ≡ exitsWord e0 e1 ⌝ }
+{
+    0x8000_0000 + e0 as u32 * 0x4000 + e1 as u32
+}
+
+// Bits 28..26 of a gate's header: its function.
+pub fn gate_function(w: u32) -> u32
+    ensures { λ r. ⌜ r ≡ gateFunction w ⌝ }
+{
+    (w >> 26) & 7
+}
+
+// Bits 25..16, which must be zero in a gate's header.
+pub fn gate_spare(w: u32) -> u32
+    ensures { λ r. ⌜ r ≡ gateSpare w ⌝ }
+{
+    (w >> 16) & 0x3FF
 }
 
 // Bit i.

@@ -17,7 +17,7 @@ unfolding headerVerdict
 returns-2 c =
     let at-kind = c .before .before in
     let few = lt-leb 1024 (at-kind .before .before .before .args .c .graphs) (omega (arith, at-kind .before .if1 .left)) in
-    rw (few, ← at-kind .kind .ensures, eq-eqb _ _ (c .before .if2 .taken)) (c .check-input .ensures)
+    rw (few, ← at-kind .kind .ensures, eq-eqb _ _ (c .before .if2 .taken), ← at-kind .before .before .before .pre .0) (c .check-input .ensures)
 
 returns-3 : tie.Need-returns-3
 unfolding headerVerdict

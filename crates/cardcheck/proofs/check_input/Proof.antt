@@ -5,15 +5,11 @@ use Rattle.cardcheck.proofs.check_input.Statement.{statement}
 use Rattle.cardcheck.proofs.check_input.Tie as tie
 
 returns : tie.Need-returns
-returns c =
-    let at-start = c .before .before in
-    rw (lt-ltb _ _ (c .if1 .taken), at-start .pre .0)
+returns c = rw (lt-ltb _ _ (c .if1 .taken))
 
 returns-2 : tie.Need-returns-2
 returns-2 c =
-    let at-if-1 = c .before .before in
-    let at-start = at-if-1 .before .before in
-    rw (le-ltb _ _ (at-if-1 .if1 .left), ← c .before .input-spare .ensures, ne-eqb _ _ (c .if2 .taken), at-start .pre .0)
+    rw (le-ltb _ _ (c .before .before .if1 .left), ← c .before .input-spare .ensures, ne-eqb _ _ (c .if2 .taken))
 
 returns-3 : tie.Need-returns-3
 returns-3 c = rw (le-ltb _ _ (c .before .before .if1 .left), ← c .before .input-spare .ensures, eq-eqb _ _ (c .if2 .left))

@@ -1,0 +1,2 @@
+-- The turns of the loops of the check.
+pub mod Turns

@@ -1,0 +1,6 @@
+pub mod Lines
+pub mod Form
+pub mod Gates
+pub mod Drawn
+pub mod Listed
+pub mod Same
