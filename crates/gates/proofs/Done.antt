@@ -5,24 +5,21 @@ use mathlib.Core.List.{List}
 use lib.ListN.{length}
 use Rattle.lists.specs.Tables.{front}
 use Rattle.answers.specs.declared.Counts.{Counts}
-use Rattle.answers.specs.declared.Verdict.{Verdict}
 use Rattle.answers.specs.declared.Reply.the-variants as reply
-use Rattle.answers.specs.Tests.{firstBroken}
 use Rattle.answers.proofs.Calls.{call-went, call-left}
 use Rattle.gatelist.specs.Form.{listed}
 use Rattle.gatelist.proofs.Same.{drawn-as-gates}
-use Rattle.gates.specs.Calls.{roomTests, cardWords, toCardReply}
+use Rattle.gates.specs.Calls.{cardWords, ownTests, toCardReply}
 use Rattle.gates.specs.Done.{Made}
 
 pub to-card-done : (gs d : List ℕ) (n : ℕ) → toCardReply gs d ≡ reply.Done n → Made gs d n
 to-card-done gs d n e =
-    let tests : Counts → Verdict = λ c. firstBroken (roomTests (length (cardWords gs c)) (length d)) in
     let number : Counts → ℕ = λ c. length (cardWords gs c) in
-    let w = call-went (listed gs) tests number e in
+    let w = call-went (listed gs) (ownTests gs (length d)) number e in
     record {
       counted = w .counted;
       accepted = w .accepted;
       as-gates = drawn-as-gates gs 0 (w .accepted);
       number = w .told;
-      words = call-left (listed gs) tests number (λ c. front (cardWords gs c) d) d w;
+      words = call-left (listed gs) (ownTests gs (length d)) number (λ c. front (cardWords gs c) d) d w;
     }

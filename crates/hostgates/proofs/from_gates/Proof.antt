@@ -43,7 +43,7 @@ returns c =
     let own : Counts → List Test = λ d. roomTests (length (cardWords (wordsOf (a .gates .now)) d)) (room (a .card .now)) in
     let e = sym (at-check .check-gates .ensures .0) ∙ at-c .c .given .1 in
     let d = call-breaks _ (λ d. Sound) own _ _ _ (opened-card _ ∙ e)
-    (sym (room-tested (gates-listed _ e) _) ∙ sym (at-room .test-room .ensures) ∙ c .before .before .rule2 .given .1) in
+    (sym (room-tested (gates-listed _ e) (room (a .card .now))) ∙ sym (at-room .test-room .ensures) ∙ c .before .before .rule2 .given .1) in
     (c .refusal2 .ensures ∙ ap hostAnswer (d .0), d .1)
 
 array-share-prefix-ws : tie.Need-array-share-prefix-ws
@@ -88,7 +88,7 @@ returns-3 c =
     let o = at-check .check-gates .ensures in
     let e = sym (o .0) ∙ at-c .c .given .1 in
     let d = call-done _ (λ d. Sound) own _ _ _ (opened-card _ ∙ e)
-    (sym (room-tested (gates-listed _ e) _) ∙ sym (at-room .test-room .ensures) ∙ at-sound .enum-told .given .1) in
+    (sym (room-tested (gates-listed _ e) (room (a .card .now))) ∙ sym (at-room .test-room .ensures) ∙ at-sound .enum-told .given .1) in
     let w = rw (o .1 (gates-short _ e) .front) at (at-write .write-card .ensures) in
     (w .0 ∙ ap hostAnswer (d .0), w .1 ∙ d .1)
 
