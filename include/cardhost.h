@@ -3,8 +3,8 @@
  * Link with libcardhost.a; nothing else is needed. The eight functions keep no state between calls
  * and allocate nothing.
  *
- * WORDS. A card, its vectors and every answer are 32-bit words, each as four bytes, highest byte
- * first, at any address. The parameters that end in _len count bytes.
+ * WORDS. A card, its vectors, lists of faults and every answer are 32-bit words, each as four bytes,
+ * highest byte first, at any address. The parameters that end in _len count bytes.
  *
  * A CARD is a set of decision graphs; docs/FORMAT.md has its words. With N nodes and G graphs it has
  * F = 2N + 2G faults. Fault 2j makes node j always take its 0-exit, 2j + 1 its 1-exit; fault 2N + 2g
@@ -12,6 +12,10 @@
  * observable graph differs from its value with no fault. A node decides on the value of the graph that
  * it reads or, where bit 16 of its read (a kind 3 word) is set, on one minus that: an inverted read. A
  * node's faults are about its exits, a graph's about its own value.
+ *
+ * A LIST OF FAULTS is 0 to 8 fault numbers in any order, a word each. They hold together. No number stands in
+ * it twice, and not both faults of one node or of one graph. A held graph shows its value whatever its nodes
+ * do, so that their faults change nothing there. Gradings are about single faults.
  *
  * A LEAD counts a single time. A graph that is not observable (no input is) and that exactly one node of
  * the card reads is a lead, with no stem: held at 0 it is caught by the same vectors as that node stuck at
@@ -46,7 +50,7 @@
  *   - of the other calls, 0.
  * Else the call is refused, and the number is refusal * 4294967296 + position (CARD_REFUSAL and
  * CARD_POSITION take it apart). The first broken rule is told, in this order: 1; then word by word 2,
- * 4, 5 and then 3, 6 or 7, with 8 after a graph's last word; 9; 10; 11; 12, of the marks before the
+ * 4, 5 and then 3, 6 or 7, with 8 after a graph's last word; 9; 10; 11; 17; 12, of the marks before the
  * tallies. card_join tells those of A, 1 to 9, then those of B, then 13, 14, 12. card_from_gates tells 1; then
  * word by word, at a header 2, 4, 5, 3, 15 and at a lead 4, 5, 16; 9; 12.
  *
@@ -62,7 +66,8 @@
  *    8   a local node that no exit names                               the header
  *    9   no observable graph                                           the word count
  *   10   vector words: number, kind or bits wrong                      0, or the vector word
- *   11   graph or fault number too high                                0
+ *   11   graph number too high, or any fault number of a list, the     0
+ *        ninth and later ones too
  *   12   buffer too short                                              0; of card_grade's tallies 1
  *   13   wire words: another number of them than B has inputs, or one  0, or the wire word
  *        is neither FFFFFFFF nor the number of a graph of A
@@ -70,6 +75,8 @@
  *   15   gate's function 6 or 7, no lead, or NOT or BUF without        the header
  *        exactly one
  *   16   lead of a gate names no earlier line                          the kind 3 word
+ *   17   list of faults: over 8 numbers, one repeated, both faults of  0
+ *        one node or graph, or leftover bytes
  *
  * Of a gate list 1, 2, 4, 5 and 9 are told with its lines for graphs and its gates for outputs; the bits that
  * must be zero are 28..0 of an input, 25..16 of a gate's header and 28..16 of a lead. 3 is told where a header's
@@ -82,12 +89,12 @@
  *
  * LEFTOVERS, where a length is no multiple of 4. One to three bytes at the end of a card or a gate list are
  * refusal 4 at the number of its whole words, after the last graph's 8 and just before 9. In vectors they are a
- * wrong number of words, refusal 10 at 0, and in wire words likewise 13 at 0. In a buffer they are
- * unused.
+ * wrong number of words, refusal 10 at 0, and in wire words likewise 13 at 0. In a list of faults they are
+ * refusal 17, after 11 for its whole words. In a buffer they are unused.
  *
  * BUFFERS. A refused call alters no byte of any buffer. A call that is done writes just the words it
- * names, from a buffer's front; every byte beyond them keeps its content. Cards, vectors, wires and gate lists
- * are only read.
+ * names, from a buffer's front; every byte beyond them keeps its content. Cards, vectors, lists of faults, wires
+ * and gate lists are only read.
  *
  * TRUSTED, and not looked at: each pointer is good for its length (and not NULL, though nothing is
  * read or written at length 0), and a lent buffer overlaps no other lent part, also not the other buffer.
@@ -120,10 +127,11 @@ uint64_t card_check(const uint8_t *card, size_t card_len, uint8_t *numbers, size
 uint64_t card_good_values(const uint8_t *card, size_t card_len, const uint8_t *vector, size_t vector_len,
                           uint8_t *values, size_t values_len);
 
-/* The same with one fault in. A held graph's own word is the value that it is held at. Also refusal
- * 11, where the fault's number is F or more. */
+/* The same with the faults of a list in, all together. A held graph's own word is the value that it is held
+ * at. The empty list gives the good values, and two orders of a list give the same. Also refusal 11, where a
+ * fault's number is F or more, and then 17; both are told before 12. */
 uint64_t card_fault_values(const uint8_t *card, size_t card_len, const uint8_t *vector, size_t vector_len,
-                           uint32_t fault, uint8_t *values, size_t values_len);
+                           const uint8_t *faults, size_t faults_len, uint8_t *values, size_t values_len);
 
 /* Which graphs have another value when this graph alone is held at the opposite of its value: writes
  * their numbers, rising, the graph's own first, and answers how many. Refusal 11 where the graph's

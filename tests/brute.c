@@ -12,7 +12,7 @@ enum {
     MAX_FAULTS = 2 * MAX_NODES + 2 * MAX_GRAPHS,
     MAX_VECTORS = 65535,
     MAX_VECTOR_WORDS = 16384,
-    NO_FAULT = BRUTE_NO_FAULT
+    MAX_TOGETHER = 8
 };
 
 struct card {
@@ -211,12 +211,63 @@ static uint64_t vectors_fault(const struct card *c, const uint8_t *vectors, size
     return 0;
 }
 
+/* ---- lists of faults ---- */
+
+/* Of a list of fault numbers: the refusal, or 0. A node and a graph have two faults each, an even number and the next one, so
+ * that of two equal numbers and of both faults of one place the halves are equal. */
+static uint64_t faults_fault(const struct card *c, const uint8_t *faults, size_t len)
+{
+    size_t count = len / 4;
+    for (size_t i = 0; i < count; i++)
+        if (get_word(faults, i) >= c->faults)
+            return refuse(11, 0);
+    if (len % 4 || count > MAX_TOGETHER)
+        return refuse(17, 0);
+    for (size_t i = 0; i < count; i++)
+        for (size_t k = 0; k < i; k++)
+            if (get_word(faults, i) / 2 == get_word(faults, k) / 2)
+                return refuse(17, 0);
+    return 0;
+}
+
+/* The faults that are in, all together. */
+struct faults {
+    unsigned count, number[MAX_TOGETHER];
+};
+
+static const struct faults none;
+
+static struct faults only(unsigned fault)
+{
+    return (struct faults){ 1, { fault } };
+}
+
+/* A right list. */
+static struct faults listed(const uint8_t *faults, size_t len)
+{
+    struct faults in = { 0 };
+    while (in.count < len / 4) {
+        in.number[in.count] = get_word(faults, in.count);
+        in.count++;
+    }
+    return in;
+}
+
+/* A place has the faults 2 * place and the next one: 0 or 1 where that one is in, -1 where neither is. */
+static int stuck_at(const struct faults *in, unsigned place)
+{
+    for (unsigned i = 0; i < in->count; i++)
+        if (in->number[i] / 2 == place)
+            return (int)(in->number[i] % 2);
+    return -1;
+}
+
 /* ---- values, by recursion over the definition ---- */
 
 struct run {
     const struct card *c;
     const uint8_t *vector;
-    long fault;
+    const struct faults *in;
     signed char saved[MAX_GRAPHS]; /* a graph's value, or -1 */
 };
 
@@ -231,23 +282,21 @@ static unsigned graph_value(struct run *r, unsigned g);
 static unsigned node_value(struct run *r, unsigned j)
 {
     const struct card *c = r->c;
-    unsigned decision, e;
-    if (r->fault == 2L * j || r->fault == 2L * j + 1)
-        decision = r->fault % 2;
-    else
-        decision = decided(c, j, graph_value(r, c->read[j]));
-    e = c->exit[j][decision];
+    int stuck = stuck_at(r->in, j);
+    unsigned decision = stuck >= 0 ? (unsigned)stuck : decided(c, j, graph_value(r, c->read[j]));
+    unsigned e = c->exit[j][decision];
     return e < 2 ? e : node_value(r, c->first[c->home[j]] + e - 2);
 }
 
 static unsigned graph_value(struct run *r, unsigned g)
 {
     const struct card *c = r->c;
-    long held = 2L * c->nodes + 2L * g;
+    int held;
     if (r->saved[g] >= 0)
         return (unsigned)r->saved[g];
-    if (r->fault == held || r->fault == held + 1)
-        r->saved[g] = (signed char)(r->fault - held);
+    held = stuck_at(r->in, c->nodes + g);
+    if (held >= 0) /* whatever its nodes do */
+        r->saved[g] = (signed char)held;
     else if (c->kind[g] == 0)
         r->saved[g] = get_word(r->vector, g / 16) >> g % 16 & 1;
     else
@@ -255,13 +304,13 @@ static unsigned graph_value(struct run *r, unsigned g)
     return (unsigned)r->saved[g];
 }
 
-/* The values of all graphs, with a fault in or none. */
-static void all_values(const struct card *c, const uint8_t *vector, long fault, uint8_t *values)
+/* The values of all graphs, with faults in or none. */
+static void all_values(const struct card *c, const uint8_t *vector, const struct faults *in, uint8_t *values)
 {
     static struct run r;
     r.c = c;
     r.vector = vector;
-    r.fault = fault;
+    r.in = in;
     memset(r.saved, -1, c->graphs);
     for (unsigned g = 0; g < c->graphs; g++)
         values[g] = (uint8_t)graph_value(&r, g);
@@ -277,10 +326,11 @@ static int observed(const struct card *c, const uint8_t *good, const uint8_t *ot
     return 0;
 }
 
-static int catches(const struct card *c, const uint8_t *vector, const uint8_t *good, long fault)
+static int catches(const struct card *c, const uint8_t *vector, const uint8_t *good, unsigned fault)
 {
     static uint8_t other[MAX_GRAPHS];
-    all_values(c, vector, fault, other);
+    struct faults in = only(fault);
+    all_values(c, vector, &in, other);
     return observed(c, good, other);
 }
 
@@ -337,7 +387,7 @@ static void agree(const struct card *c, const uint8_t *vector, const uint8_t *go
 static void all_caught(const struct card *c, const uint8_t *vector, uint8_t *caught)
 {
     static uint8_t good[MAX_GRAPHS];
-    all_values(c, vector, NO_FAULT, good);
+    all_values(c, vector, &none, good);
     for (unsigned base = 0; base < c->faults; base += 64) {
         uint64_t lanes = catches_lanes(c, good, base);
         for (unsigned f = base; f < c->faults && f < base + 64; f++)
@@ -449,10 +499,10 @@ uint64_t brute_check(const uint8_t *card, size_t card_len, uint8_t *numbers, siz
     return 0;
 }
 
-static void put_values(const uint8_t *vector, long fault, uint8_t *values)
+static void put_values(const uint8_t *vector, const struct faults *in, uint8_t *values)
 {
     static uint8_t v[MAX_GRAPHS];
-    all_values(&the_card, vector, fault, v);
+    all_values(&the_card, vector, in, v);
     for (unsigned g = 0; g < the_card.graphs; g++)
         put_word(values, g, v[g]);
 }
@@ -465,21 +515,21 @@ uint64_t brute_good_values(const uint8_t *card, size_t card_len, const uint8_t *
         return r;
     if (values_len / 4 < the_card.graphs)
         return refuse(12, 0);
-    put_values(vector, NO_FAULT, values);
+    put_values(vector, &none, values);
     return 0;
 }
 
 uint64_t brute_fault_values(const uint8_t *card, size_t card_len, const uint8_t *vector, size_t vector_len,
-                            uint32_t fault, uint8_t *values, size_t values_len)
+                            const uint8_t *faults, size_t faults_len, uint8_t *values, size_t values_len)
 {
+    struct faults in;
     uint64_t r = take(card, card_len, vector, vector_len, 1);
-    if (r)
+    if (r || (r = faults_fault(&the_card, faults, faults_len)) != 0)
         return r;
-    if (fault >= the_card.faults)
-        return refuse(11, 0);
     if (values_len / 4 < the_card.graphs)
         return refuse(12, 0);
-    put_values(vector, fault, values);
+    in = listed(faults, faults_len);
+    put_values(vector, &in, values);
     return 0;
 }
 
@@ -488,6 +538,7 @@ uint64_t brute_change_list(const uint8_t *card, size_t card_len, const uint8_t *
 {
     static uint8_t good[MAX_GRAPHS], held[MAX_GRAPHS];
     const struct card *c = &the_card;
+    struct faults opposite;
     unsigned length = 0;
     uint64_t r = take(card, card_len, vector, vector_len, 1);
     if (r)
@@ -496,8 +547,9 @@ uint64_t brute_change_list(const uint8_t *card, size_t card_len, const uint8_t *
         return refuse(11, 0);
     if (list_len / 4 < c->graphs)
         return refuse(12, 0);
-    all_values(c, vector, NO_FAULT, good);
-    all_values(c, vector, 2L * c->nodes + 2L * graph + 1 - good[graph], held);
+    all_values(c, vector, &none, good);
+    opposite = only(2 * c->nodes + 2 * graph + 1 - good[graph]);
+    all_values(c, vector, &opposite, held);
     for (unsigned g = 0; g < c->graphs; g++)
         if (good[g] != held[g])
             put_word(list, length++, g);
@@ -514,7 +566,7 @@ uint64_t brute_critical_nodes(const uint8_t *card, size_t card_len, const uint8_
         return r;
     if (nodes_len / 4 < c->nodes)
         return refuse(12, 0);
-    all_values(c, vector, NO_FAULT, good);
+    all_values(c, vector, &none, good);
     all_caught(c, vector, caught);
     for (unsigned j = 0; j < c->nodes; j++) /* the fault that forces the exit not taken */
         put_word(nodes, j, caught[2 * j + 1 - decided(c, j, good[c->read[j]])]);
@@ -650,22 +702,31 @@ uint64_t brute_join(const uint8_t *a, size_t a_len, const uint8_t *b, size_t b_l
     return words;
 }
 
-/* The fault of one of the two cards that a fault of the joined one is, or none. */
+/* The fault of one of the two cards that a fault of the joined one is, or -1 where it is the other card's. */
 static long fault_of(const struct card *c, long fault)
 {
     long place = fault / 2, before = c == &both.b ? both.a.nodes : 0;
-    if (fault == NO_FAULT)
-        return NO_FAULT;
     if (place < (long)both.nodes)
-        return place >= before && place < before + (long)c->nodes ? fault - 2 * before : NO_FAULT;
+        return place >= before && place < before + (long)c->nodes ? fault - 2 * before : -1;
     place -= both.nodes;
-    return both.origin[place].card == c ? 2L * c->nodes + 2L * both.origin[place].graph + fault % 2 : NO_FAULT;
+    return both.origin[place].card == c ? 2L * c->nodes + 2L * both.origin[place].graph + fault % 2 : -1;
+}
+
+/* Of the faults that are in the joined card, those of one of the two. */
+static struct faults faults_of(const struct card *c, const struct faults *in)
+{
+    struct faults own = { 0 };
+    for (unsigned i = 0; i < in->count; i++)
+        if (fault_of(c, in->number[i]) >= 0)
+            own.number[own.count++] = (unsigned)fault_of(c, in->number[i]);
+    return own;
 }
 
 /* The values of one card's graphs under a vector of the joined one: a wired input has the value in A of the graph that its wire names. */
-static void values_in(const struct card *c, const uint8_t *vector, long fault, const uint8_t *in_a, uint8_t *values)
+static void values_in(const struct card *c, const uint8_t *vector, const struct faults *in, const uint8_t *in_a, uint8_t *values)
 {
     static uint8_t own[4 * MAX_GRAPHS / 16];
+    struct faults own_faults = faults_of(c, in);
     uint32_t words[MAX_GRAPHS / 16] = { 0 };
     for (unsigned i = 0; i < c->inputs; i++) {
         unsigned n = numbers_of(c)[i];
@@ -674,23 +735,24 @@ static void values_in(const struct card *c, const uint8_t *vector, long fault, c
     }
     for (unsigned j = 0; j < width(c); j++)
         put_word(own, j, 0xA0000000u | words[j]);
-    all_values(c, own, fault_of(c, fault), values);
+    all_values(c, own, &own_faults, values);
 }
 
 struct pair_values {
     uint8_t a[MAX_GRAPHS], b[MAX_GRAPHS];
 };
 
-static void together(const uint8_t *vector, long fault, struct pair_values *v)
+static void together(const uint8_t *vector, const struct faults *in, struct pair_values *v)
 {
-    values_in(&both.a, vector, fault, NULL, v->a);
-    values_in(&both.b, vector, fault, v->a, v->b);
+    values_in(&both.a, vector, in, NULL, v->a);
+    values_in(&both.b, vector, in, v->a, v->b);
 }
 
-void brute_together_values(const uint8_t *vector, long fault, uint8_t *values)
+void brute_together_values(const uint8_t *vector, const uint8_t *faults, size_t faults_len, uint8_t *values)
 {
     static struct pair_values v;
-    together(vector, fault, &v);
+    struct faults in = listed(faults, faults_len);
+    together(vector, &in, &v);
     for (unsigned g = 0; g < both.graphs; g++)
         put_word(values, g, (both.origin[g].card == &both.a ? v.a : v.b)[both.origin[g].graph]);
 }
@@ -715,9 +777,10 @@ uint64_t brute_together_grade(const uint8_t *vectors, size_t vectors_len, uint8_
     memset(tally, 0, sizeof tally);
     for (size_t v = 0; v < vectors_len / 4 / w; v++) {
         const uint8_t *vector = vectors + 4 * w * v;
-        together(vector, NO_FAULT, &good);
+        together(vector, &none, &good);
         for (unsigned f = 0; f < faults; f++) {
-            together(vector, f, &other);
+            struct faults in = only(f);
+            together(vector, &in, &other);
             caught[f] = observed(&both.a, good.a, other.a) || observed(&both.b, good.b, other.b);
         }
         take_in(caught, faults, v);

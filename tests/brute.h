@@ -1,7 +1,7 @@
 /* brute.h: the calls on cards and the program's text again, by brute force; the one on gate lists is in gatesim.h.
  *
  * Written from documents 01 and 02 alone. It shares nothing with the engine and knows no marking rules:
- * what a fault does is found by putting it in and working out the whole card again.
+ * what faults do is found by putting them in and working out the whole card again.
  */
 #ifndef BRUTE_H
 #define BRUTE_H
@@ -14,7 +14,7 @@ uint64_t brute_check(const uint8_t *card, size_t card_len, uint8_t *numbers, siz
 uint64_t brute_good_values(const uint8_t *card, size_t card_len, const uint8_t *vector, size_t vector_len,
                            uint8_t *values, size_t values_len);
 uint64_t brute_fault_values(const uint8_t *card, size_t card_len, const uint8_t *vector, size_t vector_len,
-                            uint32_t fault, uint8_t *values, size_t values_len);
+                            const uint8_t *faults, size_t faults_len, uint8_t *values, size_t values_len);
 uint64_t brute_change_list(const uint8_t *card, size_t card_len, const uint8_t *vector, size_t vector_len,
                            uint32_t graph, uint8_t *list, size_t list_len);
 uint64_t brute_critical_nodes(const uint8_t *card, size_t card_len, const uint8_t *vector, size_t vector_len,
@@ -26,10 +26,9 @@ uint64_t brute_join(const uint8_t *a, size_t a_len, const uint8_t *b, size_t b_l
 
 /* The two cards that brute_join has joined last, worked out together, A and then B with what A has on its
  * wires: no joined card is looked at, also not for the readers of a graph. Vectors, faults and graphs are
- * told as of the joined card, with right vectors and enough room. The values with a fault in, or with none
- * at BRUTE_NO_FAULT; the marks and tallies of a list, and the marked count. */
-enum { BRUTE_NO_FAULT = -1 };
-void brute_together_values(const uint8_t *vector, long fault, uint8_t *values);
+ * told as of the joined card, with right vectors, right lists of faults and enough room. The values with a list
+ * of faults in, which may be empty; the marks and tallies of a list of vectors, and the marked count. */
+void brute_together_values(const uint8_t *vector, const uint8_t *faults, size_t faults_len, uint8_t *values);
 uint64_t brute_together_grade(const uint8_t *vectors, size_t vectors_len, uint8_t *marks, uint8_t *tallies);
 
 /* Of the card that a call other than brute_join accepted last: the fault of a graph's one reader that goes with the

@@ -13,7 +13,7 @@ uint64_t ask_engine(const struct asked *a, uint8_t *buffer, size_t len, uint8_t 
     switch (a->call) {
     case CHECK: return card_check(a->card, a->card_len, buffer, len);
     case GOOD: return card_good_values(a->card, a->card_len, a->vectors, a->vectors_len, buffer, len);
-    case FAULT: return card_fault_values(a->card, a->card_len, a->vectors, a->vectors_len, a->number, buffer, len);
+    case FAULT: return card_fault_values(a->card, a->card_len, a->vectors, a->vectors_len, a->faults, a->faults_len, buffer, len);
     case CHANGE: return card_change_list(a->card, a->card_len, a->vectors, a->vectors_len, a->number, buffer, len);
     case CRITICAL: return card_critical_nodes(a->card, a->card_len, a->vectors, a->vectors_len, buffer, len);
     case GRADE: return card_grade(a->card, a->card_len, a->vectors, a->vectors_len, buffer, len, tallies, tallies_len);
@@ -27,7 +27,7 @@ uint64_t ask_brute(const struct asked *a, uint8_t *buffer, size_t len, uint8_t *
     switch (a->call) {
     case CHECK: return brute_check(a->card, a->card_len, buffer, len);
     case GOOD: return brute_good_values(a->card, a->card_len, a->vectors, a->vectors_len, buffer, len);
-    case FAULT: return brute_fault_values(a->card, a->card_len, a->vectors, a->vectors_len, a->number, buffer, len);
+    case FAULT: return brute_fault_values(a->card, a->card_len, a->vectors, a->vectors_len, a->faults, a->faults_len, buffer, len);
     case CHANGE: return brute_change_list(a->card, a->card_len, a->vectors, a->vectors_len, a->number, buffer, len);
     case CRITICAL: return brute_critical_nodes(a->card, a->card_len, a->vectors, a->vectors_len, buffer, len);
     case GRADE: return brute_grade(a->card, a->card_len, a->vectors, a->vectors_len, buffer, len, tallies, tallies_len);

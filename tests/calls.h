@@ -9,7 +9,7 @@ enum call { CHECK, GOOD, FAULT, CHANGE, CRITICAL, GRADE, JOIN, GATES, CALLS };
 
 extern const char *const call_names[CALLS];
 
-/* What a call is given. The number is a fault's or a graph's, where the call takes one. JOIN takes a
+/* What a call is given. FAULT alone takes a list of faults, and CHANGE alone a graph's number. JOIN takes a
  * second card, and wire words in the place of vectors; GATES a gate list in the place of the card, and nothing else. */
 struct asked {
     enum call call;
@@ -17,6 +17,8 @@ struct asked {
     size_t card_len;
     const uint8_t *vectors;
     size_t vectors_len;
+    const uint8_t *faults;
+    size_t faults_len;
     uint32_t number;
     const uint8_t *second;
     size_t second_len;

@@ -1,8 +1,8 @@
 /* cases.c: fixed cases through the host's calls, with the expected answers written out.
  *
  * They are document 01's own figures where it has some; the others follow from its rules and from those of
- * document 02, worked out by hand. A card, a gate list, a list of vectors, wires and the words of a buffer
- * are written as text:
+ * document 02, worked out by hand. A card, a gate list, a list of vectors or of faults, wires and the words of
+ * a buffer are written as text:
  *
  *   60000001    eight hexadecimal digits, a word       A0000001*65535   a word so many times
  *   12          fewer digits, a decimal number         +2               two leftover bytes
@@ -26,6 +26,8 @@
 /* Akers's f with an inverter: node 1 reads B inverted, with its exits the other way round. Two inverters in a row. */
 #define CARD_I "00000000 00000000 00000000 40000003 60000000 8000C001 60010001 80000004 60000002 80000001"
 #define CARD_II "00000000 20000001 60010000 80000001 40000001 60010001 80000001"
+/* A not equal to B: node 0 for A, then node 1 or 2 for B. */
+#define CARD_X "00000000 00000000 40000003 60000000 8000C004 60000001 80000001 60000001 80004000"
 #define CUT_S "00000000 20000001 60000000 80000001"
 #define CARD_16 "0*16 40000001 6000000F 80000001"
 #define CARD_17 "0*17 40000001 6000000F 80000001"
@@ -254,8 +256,8 @@ static const struct value_case {
       "010 001 010 010 011 010 101 001 010 010 011" },
 };
 
-/* ---- single calls: call, card, vectors (one list, or several with | between), fault or graph number,
- * the buffer's bytes, answer ---- */
+/* ---- single calls: call, card, vectors (one list, or several with | between), graph number, the buffer's
+ * bytes, answer ---- */
 
 static const struct call_case {
     enum call call;
@@ -312,7 +314,6 @@ static const struct call_case {
     { CHECK, CARD_S, "", 0, W(5) + 3, "0: 1 3 3 1 12" },
     { CHECK, CARD_S, "", 0, W(9), "0: 1 3 3 1 12" },
     { GOOD, CARD_S, "A0000001", 0, W(3) + 1, "0: 1 1 1" },
-    { FAULT, CARD_S, "A0000001", 0, W(3) + 2, "0: 1 0 0" },
     { CHANGE, CARD_S, "A0000001", 1, W(3) + 3, "2: 1 2" },
     { CRITICAL, CARD_S, "A0000001", 0, W(3) + 2, "0: 1 1 1" },
     /* leftover bytes of a card: 4 at the word count, before 10 and 12 */
@@ -325,12 +326,10 @@ static const struct call_case {
     /* a call on one vector wants just one */
     { CRITICAL, CARD_S, " | A0000000 A0000001", 0, W(3), "refused 10 0" },
     { CHANGE, CARD_S, " | A0000000 A0000001", 0, W(3), "refused 10 0" },
-    { FAULT, CARD_S, " | A0000000 A0000001", 0, W(3), "refused 10 0" },
     { GOOD, CARD_17, "A0000000 60000000 A0000000", 0, W(18), "refused 10 0" },
-    /* orders: 9, 10, 11, 12 */
+    /* orders: 9 and 10 before 12 */
     { CHECK, CUT_S, "", 0, 0, "refused 9 4" },
     { CRITICAL, CARD_S, "60000000", 0, 0, "refused 10 0" },
-    { FAULT, CARD_S, "A0000000", 12, W(3), "refused 11 0" },
     /* a card at all three limits: 512 inputs, and 512 graphs of 8 nodes that read input 0 */
     { GOOD, "0*512 obs8*512", "A0000001 A0000000*31", 0, W(1024), "0: 1 0*511 1*512" },
     { CHANGE, "0*512 obs8*512", "A0000000*32", 1, W(1024), "1: 1" },
@@ -370,111 +369,284 @@ static const struct call_case {
     { GOOD, CARD_17, "A0000000 A0000002 | A0000000 A0010000 | A0000000 60000000", 0, W(18), "refused 10 1" },
     { GOOD, CARD_17, "60000000 A0000000 | A0010000 A0000000 | "
       "A0010000 60000000 | 60000000 A0000002", 0, W(18), "refused 10 0" },
-    /* S, fault numbers and buffers */
-    { FAULT, CARD_S, "A0000001", 12, W(4), "refused 11 0" },
-    { FAULT, CARD_S, "A0000001", 2147483647, W(4), "refused 11 0" },
-    { FAULT, CARD_S, "A0000001", 2147483648u, W(4), "refused 11 0" },
-    { FAULT, CARD_S, "A0000001", 4294967295u, W(4), "refused 11 0" },
+    /* S, buffers */
     { GOOD, CARD_S, "A0000001", 0, W(0), "refused 12 0" },
-    { FAULT, CARD_S, "A0000001", 0, W(0), "refused 12 0" },
     { GOOD, CARD_S, "A0000001", 0, W(1), "refused 12 0" },
-    { FAULT, CARD_S, "A0000001", 0, W(1), "refused 12 0" },
     { GOOD, CARD_S, "A0000001", 0, W(2), "refused 12 0" },
-    { FAULT, CARD_S, "A0000001", 0, W(2), "refused 12 0" },
-    { FAULT, CARD_S, "A0000001", 0, W(3), "0: 1 0 0" },
     { GOOD, CARD_S, "A0000001", 0, W(4), "0: 1 1 1" },
-    { FAULT, CARD_S, "A0000001", 0, W(4), "0: 1 0 0" },
     { GOOD, CARD_S, "A0000001", 0, W(5), "0: 1 1 1" },
-    { FAULT, CARD_S, "A0000001", 0, W(5), "0: 1 0 0" },
-    /* Akers's f, fault numbers and buffers */
-    { FAULT, CARD_F, "A0000001", 14, W(4), "refused 11 0" },
-    { FAULT, CARD_F, "A0000001", 2147483647, W(4), "refused 11 0" },
-    { FAULT, CARD_F, "A0000001", 2147483648u, W(4), "refused 11 0" },
-    { FAULT, CARD_F, "A0000001", 4294967295u, W(4), "refused 11 0" },
+    /* Akers's f, buffers */
     { GOOD, CARD_F, "A0000001", 0, W(0), "refused 12 0" },
-    { FAULT, CARD_F, "A0000001", 0, W(0), "refused 12 0" },
     { GOOD, CARD_F, "A0000001", 0, W(1), "refused 12 0" },
-    { FAULT, CARD_F, "A0000001", 0, W(1), "refused 12 0" },
     { GOOD, CARD_F, "A0000001", 0, W(2), "refused 12 0" },
-    { FAULT, CARD_F, "A0000001", 0, W(2), "refused 12 0" },
     { GOOD, CARD_F, "A0000001", 0, W(3), "refused 12 0" },
-    { FAULT, CARD_F, "A0000001", 0, W(3), "refused 12 0" },
-    { FAULT, CARD_F, "A0000001", 0, W(4), "0: 1 0 0 0" },
     { GOOD, CARD_F, "A0000001", 0, W(5), "0: 1 0 0 1" },
-    { FAULT, CARD_F, "A0000001", 0, W(5), "0: 1 0 0 0" },
     /* S, orders */
-    { FAULT, CARD_S, "A0000001", 11, W(3), "0: 1 1 1" },
-    { FAULT, CARD_S, "A0000001", 12, W(3), "refused 11 0" },
-    { FAULT, CARD_S, "A0000001", 11, W(2), "refused 12 0" },
-    { FAULT, CARD_S, "A0000001", 12, W(2), "refused 11 0" },
     { GOOD, CARD_S, "60000000", 0, W(2), "refused 10 0" },
-    { FAULT, CARD_S, "60000000", 11, W(3), "refused 10 0" },
-    { FAULT, CARD_S, "60000000", 12, W(3), "refused 10 0" },
-    { FAULT, CARD_S, "60000000", 11, W(2), "refused 10 0" },
-    { FAULT, CARD_S, "60000000", 12, W(2), "refused 10 0" },
     /* S cut to 4 words, orders */
     { GOOD, CUT_S, "A0000001", 0, W(3), "refused 9 4" },
     { GOOD, CUT_S, "A0000001", 0, W(2), "refused 9 4" },
-    { FAULT, CUT_S, "A0000001", 11, W(3), "refused 9 4" },
-    { FAULT, CUT_S, "A0000001", 12, W(3), "refused 9 4" },
-    { FAULT, CUT_S, "A0000001", 11, W(2), "refused 9 4" },
-    { FAULT, CUT_S, "A0000001", 12, W(2), "refused 9 4" },
     { GOOD, CUT_S, "60000000", 0, W(3), "refused 9 4" },
     { GOOD, CUT_S, "60000000", 0, W(2), "refused 9 4" },
-    { FAULT, CUT_S, "60000000", 11, W(3), "refused 9 4" },
-    { FAULT, CUT_S, "60000000", 12, W(3), "refused 9 4" },
-    { FAULT, CUT_S, "60000000", 11, W(2), "refused 9 4" },
-    { FAULT, CUT_S, "60000000", 12, W(2), "refused 9 4" },
     /* 17 inputs, orders */
     { GOOD, CARD_17, "A000FFFF A0000001", 0, W(17), "refused 12 0" },
-    { FAULT, CARD_17, "A000FFFF A0000001", 37, W(18), "0: 1*18" },
-    { FAULT, CARD_17, "A000FFFF A0000001", 38, W(18), "refused 11 0" },
-    { FAULT, CARD_17, "A000FFFF A0000001", 37, W(17), "refused 12 0" },
-    { FAULT, CARD_17, "A000FFFF A0000001", 38, W(17), "refused 11 0" },
     { GOOD, CARD_17, "A0000000 A0000002", 0, W(17), "refused 10 1" },
-    { FAULT, CARD_17, "A0000000 A0000002", 37, W(18), "refused 10 1" },
-    { FAULT, CARD_17, "A0000000 A0000002", 38, W(18), "refused 10 1" },
-    { FAULT, CARD_17, "A0000000 A0000002", 37, W(17), "refused 10 1" },
-    { FAULT, CARD_17, "A0000000 A0000002", 38, W(17), "refused 10 1" },
     /* 1,024 graphs and 4,096 nodes */
     { GOOD, "0 link4*1022 link8", "A0000000", 0, W(1030), "0: 0*1024" },
-    { FAULT, "0 link4*1022 link8", "A0000000", 8190, W(1030), "0: 0*1024" },
-    { FAULT, "0 link4*1022 link8", "A0000000", 9216, W(1030), "0: 0*1024" },
-    { FAULT, "0 link4*1022 link8", "A0000000", 10239, W(1030), "0: 0*1023 1" },
-    { FAULT, "0 link4*1022 link8", "A0000000", 10240, W(1030), "refused 11 0" },
     { GOOD, "0 link4*1022 link8", "A0000001", 0, W(1030), "0: 1*1024" },
-    { FAULT, "0 link4*1022 link8", "A0000001", 8190, W(1030), "0: 1*1023 0" },
-    { FAULT, "0 link4*1022 link8", "A0000001", 9216, W(1030), "0: 1*512 0*512" },
-    { FAULT, "0 link4*1022 link8", "A0000001", 10239, W(1030), "0: 1*1024" },
-    { FAULT, "0 link4*1022 link8", "A0000001", 10240, W(1030), "refused 11 0" },
     /* a graph of 4,096 nodes */
     { GOOD, "0 link4096", "A0000000", 0, W(1030), "0: 0*2" },
-    { FAULT, "0 link4096", "A0000000", 4096, W(1030), "0: 0*2" },
-    { FAULT, "0 link4096", "A0000000", 8190, W(1030), "0: 0*2" },
-    { FAULT, "0 link4096", "A0000000", 8195, W(1030), "0: 0 1" },
-    { FAULT, "0 link4096", "A0000000", 8196, W(1030), "refused 11 0" },
     { GOOD, "0 link4096", "A0000001", 0, W(1030), "0: 1*2" },
-    { FAULT, "0 link4096", "A0000001", 4096, W(1030), "0: 1 0" },
-    { FAULT, "0 link4096", "A0000001", 8190, W(1030), "0: 1 0" },
-    { FAULT, "0 link4096", "A0000001", 8195, W(1030), "0: 1*2" },
-    { FAULT, "0 link4096", "A0000001", 8196, W(1030), "refused 11 0" },
     /* 1,000 graphs, each reading the one below twice */
     { GOOD, "0 link2*1000", "A0000000", 0, W(1030), "0: 0*1001" },
-    { FAULT, "0 link2*1000", "A0000000", 1000, W(1030), "0: 0*1001" },
-    { FAULT, "0 link2*1000", "A0000000", 5000, W(1030), "0: 0*1001" },
-    { FAULT, "0 link2*1000", "A0000000", 6001, W(1030), "0: 0*1000 1" },
-    { FAULT, "0 link2*1000", "A0000000", 6002, W(1030), "refused 11 0" },
     { GOOD, "0 link2*1000", "A0000001", 0, W(1030), "0: 1*1001" },
-    { FAULT, "0 link2*1000", "A0000001", 1000, W(1030), "0: 1*251 0*750" },
-    { FAULT, "0 link2*1000", "A0000001", 5000, W(1030), "0: 1*500 0*501" },
-    { FAULT, "0 link2*1000", "A0000001", 6001, W(1030), "0: 1*1001" },
-    { FAULT, "0 link2*1000", "A0000001", 6002, W(1030), "refused 11 0" },
     /* 1,023 inputs */
     { GOOD, ALL_INPUTS, "A000FFFF*64", 0, W(1030), "refused 10 63" },
     { GOOD, ALL_INPUTS, "A000FFFF*63 A0007FFF", 0, W(1030), "0: 1*1024" },
     { GOOD, ALL_INPUTS, "A000FFFF*63", 0, W(1030), "refused 10 0" },
     /* S on S's observable graph */
     { GOOD, S_ON_2, "A0000001", 0, W(5), "0: 1*5" },
+};
+
+/* ---- values with a list of faults: card, vectors and lists of faults (of both one, or several with | between), the
+ * buffer's bytes, answer ---- */
+
+static const struct fault_case {
+    const char *card, *vectors, *faults;
+    size_t room;
+    const char *want;
+} fault_cases[] = {
+    /* lists of one; leftover bytes of a buffer are unused */
+    { CARD_S, "A0000001", "0", W(3) + 2, "0: 1 0 0" },
+    /* a call on one vector wants just one */
+    { CARD_S, " | A0000000 A0000001", "0", W(3), "refused 10 0" },
+    /* document 01: S, fault 12 */
+    { CARD_S, "A0000000", "12", W(3), "refused 11 0" },
+    /* S, fault numbers and buffers */
+    { CARD_S, "A0000001", "12", W(4), "refused 11 0" },
+    { CARD_S, "A0000001", "2147483647", W(4), "refused 11 0" },
+    { CARD_S, "A0000001", "2147483648", W(4), "refused 11 0" },
+    { CARD_S, "A0000001", "4294967295", W(4), "refused 11 0" },
+    { CARD_S, "A0000001", "0", W(0), "refused 12 0" },
+    { CARD_S, "A0000001", "0", W(1), "refused 12 0" },
+    { CARD_S, "A0000001", "0", W(2), "refused 12 0" },
+    { CARD_S, "A0000001", "0", W(3), "0: 1 0 0" },
+    { CARD_S, "A0000001", "0", W(4), "0: 1 0 0" },
+    { CARD_S, "A0000001", "0", W(5), "0: 1 0 0" },
+    /* Akers's f, fault numbers and buffers */
+    { CARD_F, "A0000001", "14", W(4), "refused 11 0" },
+    { CARD_F, "A0000001", "2147483647", W(4), "refused 11 0" },
+    { CARD_F, "A0000001", "2147483648", W(4), "refused 11 0" },
+    { CARD_F, "A0000001", "4294967295", W(4), "refused 11 0" },
+    { CARD_F, "A0000001", "0", W(0), "refused 12 0" },
+    { CARD_F, "A0000001", "0", W(1), "refused 12 0" },
+    { CARD_F, "A0000001", "0", W(2), "refused 12 0" },
+    { CARD_F, "A0000001", "0", W(3), "refused 12 0" },
+    { CARD_F, "A0000001", "0", W(4), "0: 1 0 0 0" },
+    { CARD_F, "A0000001", "0", W(5), "0: 1 0 0 0" },
+    /* S, orders */
+    { CARD_S, "A0000001", "11", W(3), "0: 1 1 1" },
+    { CARD_S, "A0000001", "12", W(3), "refused 11 0" },
+    { CARD_S, "A0000001", "11", W(2), "refused 12 0" },
+    { CARD_S, "A0000001", "12", W(2), "refused 11 0" },
+    { CARD_S, "60000000", "11", W(3), "refused 10 0" },
+    { CARD_S, "60000000", "12", W(3), "refused 10 0" },
+    { CARD_S, "60000000", "11", W(2), "refused 10 0" },
+    { CARD_S, "60000000", "12", W(2), "refused 10 0" },
+    /* S cut to 4 words, orders */
+    { CUT_S, "A0000001", "11", W(3), "refused 9 4" },
+    { CUT_S, "A0000001", "12", W(3), "refused 9 4" },
+    { CUT_S, "A0000001", "11", W(2), "refused 9 4" },
+    { CUT_S, "A0000001", "12", W(2), "refused 9 4" },
+    { CUT_S, "60000000", "11", W(3), "refused 9 4" },
+    { CUT_S, "60000000", "12", W(3), "refused 9 4" },
+    { CUT_S, "60000000", "11", W(2), "refused 9 4" },
+    { CUT_S, "60000000", "12", W(2), "refused 9 4" },
+    /* 17 inputs, orders */
+    { CARD_17, "A000FFFF A0000001", "37", W(18), "0: 1*18" },
+    { CARD_17, "A000FFFF A0000001", "38", W(18), "refused 11 0" },
+    { CARD_17, "A000FFFF A0000001", "37", W(17), "refused 12 0" },
+    { CARD_17, "A000FFFF A0000001", "38", W(17), "refused 11 0" },
+    { CARD_17, "A0000000 A0000002", "37", W(18), "refused 10 1" },
+    { CARD_17, "A0000000 A0000002", "38", W(18), "refused 10 1" },
+    { CARD_17, "A0000000 A0000002", "37", W(17), "refused 10 1" },
+    { CARD_17, "A0000000 A0000002", "38", W(17), "refused 10 1" },
+    /* 1,024 graphs and 4,096 nodes */
+    { "0 link4*1022 link8", "A0000000", "8190", W(1030), "0: 0*1024" },
+    { "0 link4*1022 link8", "A0000000", "9216", W(1030), "0: 0*1024" },
+    { "0 link4*1022 link8", "A0000000", "10239", W(1030), "0: 0*1023 1" },
+    { "0 link4*1022 link8", "A0000000", "10240", W(1030), "refused 11 0" },
+    { "0 link4*1022 link8", "A0000001", "8190", W(1030), "0: 1*1023 0" },
+    { "0 link4*1022 link8", "A0000001", "9216", W(1030), "0: 1*512 0*512" },
+    { "0 link4*1022 link8", "A0000001", "10239", W(1030), "0: 1*1024" },
+    { "0 link4*1022 link8", "A0000001", "10240", W(1030), "refused 11 0" },
+    /* a graph of 4,096 nodes */
+    { "0 link4096", "A0000000", "4096", W(1030), "0: 0*2" },
+    { "0 link4096", "A0000000", "8190", W(1030), "0: 0*2" },
+    { "0 link4096", "A0000000", "8195", W(1030), "0: 0 1" },
+    { "0 link4096", "A0000000", "8196", W(1030), "refused 11 0" },
+    { "0 link4096", "A0000001", "4096", W(1030), "0: 1 0" },
+    { "0 link4096", "A0000001", "8190", W(1030), "0: 1 0" },
+    { "0 link4096", "A0000001", "8195", W(1030), "0: 1*2" },
+    { "0 link4096", "A0000001", "8196", W(1030), "refused 11 0" },
+    /* 1,000 graphs, each reading the one below twice */
+    { "0 link2*1000", "A0000000", "1000", W(1030), "0: 0*1001" },
+    { "0 link2*1000", "A0000000", "5000", W(1030), "0: 0*1001" },
+    { "0 link2*1000", "A0000000", "6001", W(1030), "0: 0*1000 1" },
+    { "0 link2*1000", "A0000000", "6002", W(1030), "refused 11 0" },
+    { "0 link2*1000", "A0000001", "1000", W(1030), "0: 1*251 0*750" },
+    { "0 link2*1000", "A0000001", "5000", W(1030), "0: 1*500 0*501" },
+    { "0 link2*1000", "A0000001", "6001", W(1030), "0: 1*1001" },
+    { "0 link2*1000", "A0000001", "6002", W(1030), "refused 11 0" },
+    /* the empty list: the good values */
+    { CARD_S, "A0000000", "", W(3), "0: 0 0 0" },
+    { CARD_S, "A0000001", "", W(3) + 1, "0: 1 1 1" },
+    { CARD_F, "A0000004", "", W(5), "0: 0 0 1 1" },
+    { CARD_II, "A0000000", "", W(3), "0: 0 1 0" },
+    { "0 link4*1022 link8", "A0000001", "", W(1024), "0: 1*1024" },
+    { CARD_S, "A0000001", "", W(2) + 3, "refused 12 0" },
+    { CARD_S, "60000000", "", W(2), "refused 10 0" },
+    { CUT_S, "A0000001", "", W(3), "refused 9 4" },
+    /* S: graph 1 copies the input by node 0, and graph 2 is both, by node 1 (the copy) and then node 2 (the input). Faults 0 to 5
+     * are of the nodes, 6 to 11 of the graphs. Neighbouring numbers of two places: */
+    { CARD_S, "A0000001", "1 2 | 2 1", W(3), "0: 1 1 0" },   /* node 1 ends at its 0-exit */
+    { CARD_S, "A0000001", "3 4 | 4 3", W(3), "0: 1 1 0" },   /* node 2 does */
+    { CARD_S, "A0000001", "5 6 | 6 5", W(3), "0: 0 0 0" },   /* the input is 0, and so is its copy; node 1 ends there */
+    { CARD_S, "A0000001", "7 8 | 8 7", W(3), "0: 1 0 0" },   /* the copy is 0 */
+    { CARD_S, "A0000001", "9 10 | 10 9", W(3), "0: 1 1 0" }, /* graph 2 itself */
+    /* Values that neither fault has by itself. The copy is held at 0, but node 1 goes on, and the input is 1. The input is held at
+     * 0, but its copy at 1; with node 2 at its 1-exit as well, graph 2 is 1. The input is held at 1, but node 0 keeps its copy at 0. */
+    { CARD_S, "A0000001", "8 3 | 3 8", W(3), "0: 1 0 1" },
+    { CARD_S, "A0000001", "6 9 | 9 6", W(3), "0: 0 1 0" },
+    { CARD_S, "A0000001", "5 6 9 | 5 9 6 | 6 5 9 | 6 9 5 | 9 5 6 | 9 6 5", W(3), "0: 0 1 1" },
+    { CARD_S, "A0000000", "7 0 | 0 7", W(3), "0: 1 0 0" },
+    { CARD_S, "A0000000", "1 5 | 5 1", W(3), "0: 0 1 1" }, /* both nodes that read the input */
+    { CARD_S, "A0000000", "3 5 | 5 3", W(3), "0: 0 0 1" }, /* both nodes of graph 2 */
+    { CARD_S, "A0000000", "7 0 11 | 7 11 0 | 0 7 11 | 0 11 7 | 11 0 7 | 11 7 0", W(3), "0: 1 0 1" },
+    /* all six places of S: the held graphs are what they are held at; without them the nodes are seen */
+    { CARD_S, "A0000000", "1 3 5 6 8 11 | 11 8 6 5 3 1 | 0 2 4 6 8 11", W(3), "0: 0 0 1" },
+    { CARD_S, "A0000001", "0 2 4 7 9 11 | 1 3 5 7 9 11 | 11 9 7 4 2 0", W(3), "0: 1 1 1" },
+    { CARD_S, "A0000000", "1 3 5", W(3), "0: 0 1 1" },
+    /* a node's fault in a held graph: the graph shows what it is held at, for its readers and for itself, either way */
+    { CARD_S, "A0000001", "0 9 | 9 0 | 1 9 | 9 1", W(3), "0: 1 1 1" },
+    { CARD_S, "A0000001", "0 8 | 8 0 | 1 8 | 8 1", W(3), "0: 1 0 0" },
+    { CARD_S, "A0000000", "0 9 | 9 0 | 1 9 | 9 1", W(3), "0: 0 1 0" },
+    { CARD_S, "A0000000", "0 8 | 8 0 | 1 8 | 8 1", W(3), "0: 0 0 0" },
+    { CARD_S, "A0000001", "2 11 | 11 2 | 3 11 | 4 11 | 2 4 11 | 11 4 2 | 2 11 4 | 3 5 11", W(3), "0: 1 1 1" },
+    { CARD_S, "A0000001", "2 10 | 10 2 | 3 10 | 4 10 | 3 5 10 | 10 3 5 | 3 10 5 | 2 4 10", W(3), "0: 1 1 0" },
+    { CARD_S, "A0000000", "3 5 10 | 10 5 3 | 2 10 | 4 10", W(3), "0: 0 0 0" },
+    { CARD_II, "A0000000", "0 7 | 7 0 | 1 7", W(3), "0: 0 1 0" }, /* graph 1 is held at its good value, and graph 2 is not that */
+    { CARD_II, "A0000000", "1 6 | 6 1 | 0 6", W(3), "0: 0 0 1" },
+    /* inverted reads: a stuck node takes the exit of its number, and a held graph is read inverted */
+    { CARD_II, "A0000000", "5 7 | 7 5", W(3), "0: 1 1 0" },
+    { CARD_II, "A0000000", "5 6 | 6 5", W(3), "0: 1 0 1" },
+    { CARD_II, "A0000000", "5 3 | 3 5", W(3), "0: 1 0 1" },
+    { CARD_II, "A0000000", "0 2 | 2 0", W(3), "0: 0 0 0" },
+    { CARD_I, "A0000006", "3 4 | 4 3", W(4), "0: 0 1 1 0" }, /* node 1 goes on, and node 2 ends at 0 */
+    { CARD_I, "A0000006", "3 10 | 10 3", W(4), "0: 0 1 0 0" },
+    /* Akers's f, A or (not B and C): faults 0 to 5 of the nodes for A, B and C, 6 to 11 of these, 12 and 13 of f */
+    { CARD_F, "A0000006", "2 5 | 5 2", W(4), "0: 0 1 1 1" },
+    { CARD_F, "A0000006", "2 10 | 10 2", W(4), "0: 0 1 0 0" },
+    { CARD_F, "A0000006", "8 10 | 10 8", W(4), "0: 0 0 0 0" },
+    { CARD_F, "A0000006", "7 12 | 12 7", W(4), "0: 1 1 1 0" },
+    { CARD_F, "A0000001", "0 2 11 | 11 2 0 | 2 11 0", W(4), "0: 1 0 1 1" }, /* past A and B to C */
+    { CARD_F, "A0000007", "0 2 4 6 8 10 12 | 12 10 8 6 4 2 0", W(4), "0: 0 0 0 0" },
+    { CARD_F, "A0000000", "1 3 5 7 9 11 13 | 0 3 4 7 9 11 13", W(4), "0: 1 1 1 1" },
+    { CARD_F, "A0000000", "0 2 5 6 8 10", W(4), "0: 0 0 0 1" },
+    /* Two faults that mask each other, in A not equal to B: each alters graph 2, and both together leave it. A and B are both held
+     * at 1 (7, 9), or node 0 goes on as if A were 1, and B is held at 1 (1, 9). Under A = 1, A is held at 0 and B at 1 (6, 9), or node 0
+     * goes on as if A were 0, and B is held at 1 (0, 9). */
+    { CARD_X, "A0000000", "7", W(3), "0: 1 0 1" },
+    { CARD_X, "A0000000", "9", W(3), "0: 0 1 1" },
+    { CARD_X, "A0000000", "7 9 | 9 7", W(3), "0: 1 1 0" },
+    { CARD_X, "A0000000", "1", W(3), "0: 0 0 1" },
+    { CARD_X, "A0000000", "1 9 | 9 1", W(3), "0: 0 1 0" },
+    { CARD_X, "A0000001", "6", W(3), "0: 0 0 0" },
+    { CARD_X, "A0000001", "9", W(3), "0: 1 1 0" },
+    { CARD_X, "A0000001", "6 9 | 9 6", W(3), "0: 0 1 1" },
+    { CARD_X, "A0000001", "0", W(3), "0: 1 0 0" },
+    { CARD_X, "A0000001", "0 9 | 9 0", W(3), "0: 1 1 1" },
+    { CARD_X, "A0000000", "7 9 11 | 11 9 7 | 9 11 7", W(3), "0: 1 1 1" }, /* but for a held graph 2 */
+    /* Eight numbers on S on S's observable graph: faults 0 to 11 of six nodes, 12 to 21 of five graphs. All nodes at their 1-exits
+     * make all graphs 1 that are not held. The eighth number is in as well, and so is the first. */
+    { S_ON_2, "A0000000", "1 3 5 7 9 11 13 15 | 15 13 11 9 7 5 3 1 | 9 1 13 5 15 7 3 11", W(5), "0: 1*5" },
+    { S_ON_2, "A0000000", "1 3 5 7 9 11 12 15 | 0 3 5 7 9 11 12 15", W(5), "0: 0 1 1 1 1" },
+    { S_ON_2, "A0000000", "1 3 5 7 9 10 13 15 | 10 1 3 5 7 9 13 15 | 1 3 5 7 9 13 15 10", W(5), "0: 1 1 1 1 0" },
+    { S_ON_2, "A0000000", "1 3 5 7 9 11 13 20 | 20 1 3 5 7 9 11 13 | 1 3 5 7 20 9 11 13", W(5), "0: 1 1 1 1 0" },
+    { S_ON_2, "A0000000", "3 5 7 9 11 12 14 16 | 16 14 12 11 9 7 5 3", W(5), "0: 0 0 0 1 1" },
+    /* 17: nine numbers or more, all of other places; or not */
+    { S_ON_2, "A0000000", "1 3 5 7 9 11 13 15 17 | 17 15 13 11 9 7 5 3 1", W(5), "refused 17 0" },
+    { S_ON_2, "A0000000", "1 3 5 7 9 11 13 15 17 19 | 1 3 5 7 9 11 13 15 17 19 21", W(5), "refused 17 0" },
+    { S_ON_2, "A0000000", "1 3 5 7 9 11 13 15 1 | 1 3 5 7 9 11 13 15 0 | 1 3 5 7 9 11 13 15 15 | 1*9 | 1*65536 | 0 1*100000", W(5),
+      "refused 17 0" },
+    /* 17: a number repeated, next to itself or not; in the last place of eight */
+    { CARD_S, "A0000001", "0 0 | 1 1 | 5 5 | 6 6 | 10 10 | 11 11 | 11 11 11", W(3), "refused 17 0" },
+    { CARD_S, "A0000001", "0 2 0 | 2 0 0 | 6 2 8 2 | 2 6 8 10 4 2 | 11 0 11", W(3), "refused 17 0" },
+    { S_ON_2, "A0000000", "1 3 5 7 9 11 13 1 | 1 3 5 7 9 11 13 13 | 1 3 5 7 9 11 5 13 | 1 1 3 5 7 9 11 13", W(5), "refused 17 0" },
+    /* 17: both faults of one node, and of one graph */
+    { CARD_S, "A0000001", "0 1 | 1 0 | 2 3 | 3 2 | 4 5 | 5 4 | 4 6 5 | 5 8 11 4 | 0 2 6 8 10 3", W(3), "refused 17 0" },
+    { CARD_S, "A0000001", "6 7 | 7 6 | 8 9 | 9 8 | 10 11 | 11 10 | 8 0 9 | 11 2 4 0 10 | 7 0 2 4 8 6", W(3), "refused 17 0" },
+    { S_ON_2, "A0000000", "1 3 5 7 9 11 13 0 | 1 3 5 7 9 11 13 12 | 20 3 5 7 9 11 13 21 | 1 3 5 4 9 11 13 21", W(5),
+      "refused 17 0" },
+    /* 17: leftover bytes after no number, one, and eight; and where more is wrong */
+    { CARD_S, "A0000001", "+1 | +2 | +3 | 0 +1 | 0 +2 | 0 +3 | 11 +1 | 0 2 +2", W(3), "refused 17 0" },
+    { S_ON_2, "A0000000", "1 3 5 7 9 11 13 15 +1 | 1 3 5 7 9 11 13 15 +2 | 1 3 5 7 9 11 13 15 +3", W(5), "refused 17 0" },
+    { S_ON_2, "A0000000", "1 3 5 7 9 11 13 15 17 +1 | 1 1 +2 | 20 21 +3 | 1*9 +3", W(5), "refused 17 0" },
+    /* 11 before 17: a number too high anywhere in a list that is wrong in another way too, be it the ninth or a later one */
+    { S_ON_2, "A0000000", "1 3 5 7 9 11 13 15 22 | 22 1 3 5 7 9 11 13 15 | 1 3 5 22 7 9 11 13 15 | 1 3 5 7 9 11 13 22 15", W(5),
+      "refused 11 0" },
+    { S_ON_2, "A0000000", "1 3 5 7 9 11 13 15 17 22 | 1 3 5 7 9 11 13 15 22 17 | 1 3 5 7 9 11 13 15 FFFFFFFF | 22*9", W(5),
+      "refused 11 0" },
+    { S_ON_2, "A0000000", "1*9 22 | 1*65535 22 | 22 1*100000 | 0 1*99999 80000001 | 1*50000 22 1*50000", W(5), "refused 11 0" },
+    { CARD_S, "A0000001", "12 12 | 0 0 12 | 12 0 0 | 0 12 0 | 0 1 12 | 12 6 7 | 6 12 7 | 12 13 | 13 12", W(3), "refused 11 0" },
+    { CARD_S, "A0000001", "12 +1 | 12 +2 | 12 +3 | 0 12 +1 | 12 0 +2 | 0 0 12 +3", W(3), "refused 11 0" },
+    { S_ON_2, "A0000000", "1 3 5 7 9 11 13 15 22 +1 | 22 1 3 5 7 9 11 13 +3 | 1 3 5 7 9 11 13 22 +2 | 1*9 22 +1", W(5),
+      "refused 11 0" },
+    /* numbers too high in lists that are right in all else */
+    { CARD_S, "A0000001", "0 12 | 12 0 | 0 2 4 6 8 12 | 12 2 4 6 8 10 | 0 FFFFFFFF | 80000000 0 | 0 00010002 | 0 01000002 | 0 00000102",
+      W(3), "refused 11 0" },
+    { S_ON_2, "A0000000", "1 3 5 7 9 11 13 22 | 22 3 5 7 9 11 13 15 | 1 3 5 7 22 11 13 15 | 1 3 5 7 9 11 13 80000001", W(5),
+      "refused 11 0" },
+    /* 17 before 12, and 11 before both */
+    { CARD_S, "A0000001", "0 0 | 0 1 | 6 7 | 11 11 | +1 | 0 +2 | 0 2 4 6 8 10 0 2 4", W(2) + 3, "refused 17 0" },
+    { CARD_S, "A0000001", "0 0 | 0 1 | 6 7 | 11 11 | +3 | 0 +2 | 0 2 4 6 8 10 0 2 4", 0, "refused 17 0" },
+    { CARD_S, "A0000001", "12 12 | 0 1 12 | 12 +1 | 0 2 4 6 8 10 0 2 12", 0, "refused 11 0" },
+    { S_ON_2, "A0000000", "1 3 5 7 9 11 13 15 17", W(4), "refused 17 0" },
+    { S_ON_2, "A0000000", "1 3 5 7 9 11 13 15 | 1 3 | 1 | ", W(4) + 3, "refused 12 0" },
+    /* 10 before 11 and 17, and the card's own before all */
+    { CARD_S, "60000000 |  | A0000000 A0000001 | A0000001 +1", "12 | 0 0 | 0 1 | 0 +1 | 12 12 | 12 +3 | 0 2", W(3),
+      "refused 10 0" },
+    { CARD_17, "A0000000 A0000002", "38 | 0 0 | 36 37 | +1 | 0 2 4 6 8 10 12 14 16", W(17), "refused 10 1" },
+    { CUT_S, "A0000001 | 60000000", "12 | 0 0 | 0 1 | 0 +1 | 12 12", W(3), "refused 9 4" },
+    { CARD_S " +1", "A0000001", "12 | 0 0 | 0 1 | 0 +1 | ", W(3), "refused 4 9" },
+    /* 17 inputs: the input that is seen, and one in the second word, are held; graph 17 copies input 15 by node 0 */
+    { CARD_17, "A0000000 A0000000", "33 35 | 35 33", W(18), "0: 0*15 1 1 1" },
+    { CARD_17, "A0000000 A0000000", "33 0 | 0 33", W(18), "0: 0*15 1 0 0" },
+    { CARD_17, "A000FFFF A0000001", "2 4 6 8 10 12 14 16 | 16 14 12 10 8 6 4 2", W(18), "0: 0*8 1*10" },
+    /* Eight on the largest cards. 1,024 graphs in a chain, of 4 nodes each and the last one of 8: every hundredth graph is held, at 1
+     * and 0 by turns; then graph 1 is 1 by all its nodes, 301 is 0 by its first one, 700 is held at 1, 901 is 0 by its first node, and
+     * the last one is held at 1. */
+    { "0 link4*1022 link8", "A0000000", "8393 8592 8793 8992 9193 9392 9593 9792 | 9792 8393 9593 8592 9392 8793 9193 8992",
+      W(1024), "0: 0*100 1*100 0*100 1*100 0*100 1*100 0*100 1*100 0*224" },
+    { "0 link4*1022 link8", "A0000000", "1 3 5 7 2400 9593 7200 10239 | 10239 7 9593 5 7200 3 2400 1", W(1030),
+      "0: 0 1*300 0*399 1*201 0*122 1" },
+    { "0 link4*1022 link8", "A0000000", "1 3 5 7 2400 9593 7200 10239 10237 | 1 3 5 7 2400 9593 7200 10239 10238", W(1030),
+      "refused 17 0" },
+    { "0 link4*1022 link8", "A0000000", "1 3 5 7 2400 9593 7200 10240 | 1 3 5 7 2400 9593 7200 10239 10240", W(1030),
+      "refused 11 0" },
+    /* The last graph by all its eight nodes; by seven of them with the first or the last one at its 0-exit; held at 0. */
+    { "0*512 obs8*512", "A0000000*32", "8177 8179 8181 8183 8185 8187 8189 8191 | 8191 8189 8187 8185 8183 8181 8179 8177",
+      W(1024), "0: 0*1023 1" },
+    { "0*512 obs8*512", "A0000000*32", "8176 8179 8181 8183 8185 8187 8189 8191 | 8177 8179 8181 8183 8185 8187 8189 8190",
+      W(1024), "0: 0*1024" },
+    { "0*512 obs8*512", "A0000000*32", "8177 8179 8181 8183 8185 8187 8189 8191 10239", W(1024), "refused 17 0" },
+    { "0*512 obs8*512", "A0000000*32", "8177 8179 8181 8183 8185 8187 8189 10238 | 10238 8179 8181 8183 8185 8187 8189 8191",
+      W(1024), "0: 0*1024" },
+    /* 4,096 nodes of one graph: any one at its 0-exit ends it, unless it is held; or the input is held, and all go on. */
+    { "0 link4096", "A0000001", "0 1000 2000 3000 4000 5000 8190 8195 | 8195 8190 5000 4000 3000 2000 1000 0", W(2), "0: 1 1" },
+    { "0 link4096", "A0000001", "1 1001 2001 3001 4001 5001 6001 8190 | 8190 1 1001 2001 3001 4001 5001 6001", W(2), "0: 1 0" },
+    { "0 link4096", "A0000000", "1 1001 2001 3001 4001 5001 8191 8193 | 8193 8191 5001 4001 3001 2001 1001 1", W(2), "0: 1 1" },
+    { "0 link4096", "A0000000", "1 1001 2001 3001 4001 5001 8191 8192", W(2), "0: 0 0" },
 };
 
 /* ---- gradings: card, vectors (once, or several with | between), the bytes of marks and of tallies, answer ---- */
@@ -941,7 +1113,7 @@ static uint8_t *bytes_of(const struct text_words *t, size_t *len)
     return bytes;
 }
 
-static struct text_words card_words, vector_words, want_words;
+static struct text_words card_words, vector_words, fault_words, want_words;
 
 /* ---- one call against its expected answer ---- */
 
@@ -997,8 +1169,9 @@ static void tell_buffer(const char *name, const struct lent *l)
 static void tell(const char *name, const struct asked *a, const char *text, uint64_t got)
 {
     differ++;
-    printf("DIFFERENCE: %s%s%s, number %u: expected %.100s, engine %llu %llu", name ? name : "", name ? ", " : "",
-           call_names[a->call], (unsigned)a->number, text, (unsigned long long)(got >> 32), (unsigned long long)(got & 0xFFFFFFFFu));
+    printf("DIFFERENCE: %s%s%s, graph %u, %zu bytes of faults: expected %.100s, engine %llu %llu", name ? name : "",
+           name ? ", " : "", call_names[a->call], (unsigned)a->number, a->faults_len, text, (unsigned long long)(got >> 32),
+           (unsigned long long)(got & 0xFFFFFFFFu));
     tell_buffer("buffer", &buffer);
     tell_buffer("tallies", &tallies);
     printf("\n");
@@ -1026,17 +1199,19 @@ static int kept(uint8_t *copy, const uint8_t *was, size_t len)
 static void one_call(const char *name, const struct asked *a, size_t room, size_t tallies_room, const char *text)
 {
     uint8_t *card = copy_of(a->card, a->card_len), *second = copy_of(a->second, a->second_len);
-    uint8_t *vectors = copy_of(a->vectors, a->vectors_len);
+    uint8_t *vectors = copy_of(a->vectors, a->vectors_len), *faults = copy_of(a->faults, a->faults_len);
     struct asked lent = *a;
     uint64_t got;
     int all_kept;
     lent.card = card;
     lent.second = second;
     lent.vectors = vectors;
+    lent.faults = faults;
     expect_buffers(text);
     cases++;
     got = ask_engine(&lent, buffer.now + GUARD, room, tallies.now + GUARD, tallies_room);
-    all_kept = kept(card, a->card, a->card_len) & kept(second, a->second, a->second_len) & kept(vectors, a->vectors, a->vectors_len);
+    all_kept = kept(card, a->card, a->card_len) & kept(second, a->second, a->second_len)
+               & kept(vectors, a->vectors, a->vectors_len) & kept(faults, a->faults, a->faults_len);
     if (got != answer_of(text) || !is_right(&buffer) || !is_right(&tallies) || !all_kept)
         tell(name, a, text, got);
 }
@@ -1076,8 +1251,9 @@ static void run_checks(void)
 static void run_value_row(const struct value_case *c)
 {
     const char *bits = c->want;
-    for (uint32_t k = 0; *bits; k++) {
-        struct asked a = { .call = k ? FAULT : GOOD, .number = k - 1 };
+    for (unsigned k = 0; *bits; k++) {
+        uint8_t fault[4] = { 0, 0, 0, (uint8_t)(k - 1) };
+        struct asked a = { .call = k ? FAULT : GOOD, .faults = fault, .faults_len = k ? 4 : 0 };
         char text[80] = "0:";
         size_t n = strcspn(bits, " ");
         for (size_t g = 0; g < n; g++) {
@@ -1104,6 +1280,29 @@ static void run_calls(void)
         char name[24];
         snprintf(name, sizeof name, "row %zu", i);
         each_list(name, &a, c->card, c->vectors, c->room, 0, c->want);
+    }
+}
+
+static void run_fault_row(const struct fault_case *c, const char *name)
+{
+    const char *faults = c->faults;
+    do {
+        struct asked a = { .call = FAULT };
+        uint8_t *bytes;
+        faults = parse(faults, &fault_words);
+        bytes = bytes_of(&fault_words, &a.faults_len);
+        a.faults = bytes;
+        each_list(name, &a, c->card, c->vectors, c->room, 0, c->want);
+        free(bytes);
+    } while (*faults++ == '|');
+}
+
+static void run_fault_lists(void)
+{
+    for (size_t i = 0; i < sizeof fault_cases / sizeof *fault_cases; i++) {
+        char name[120];
+        snprintf(name, sizeof name, "faults %.100s", fault_cases[i].faults);
+        run_fault_row(fault_cases + i, name);
     }
 }
 
@@ -1174,12 +1373,14 @@ int main(void)
 {
     card_words.words = malloc(4 * (size_t)ROOM_WORDS);
     vector_words.words = malloc(4 * (size_t)ROOM_WORDS);
+    fault_words.words = malloc(4 * (size_t)ROOM_WORDS);
     want_words.words = malloc(4 * (size_t)ROOM_WORDS);
-    if (!card_words.words || !vector_words.words || !want_words.words)
+    if (!card_words.words || !vector_words.words || !fault_words.words || !want_words.words)
         abort();
     run_checks();
     run_values();
     run_calls();
+    run_fault_lists();
     run_gradings();
     run_joins();
     run_gates();
@@ -1188,6 +1389,7 @@ int main(void)
     printf("cases: %u cases, %u differ\n", cases, differ);
     free(card_words.words);
     free(vector_words.words);
+    free(fault_words.words);
     free(want_words.words);
     return differ != 0;
 }

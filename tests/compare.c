@@ -30,7 +30,7 @@ struct lent {
     size_t front, len;
 };
 
-static struct lent card, second, vectors, buffer, tallies;
+static struct lent card, second, vectors, faults, buffer, tallies;
 
 static size_t whole(const struct lent *l)
 {
@@ -87,13 +87,15 @@ static void show_difference(const struct asked *a, uint64_t got, uint64_t want)
 {
     if (!differ(call_names[a->call]))
         return;
-    printf("  number %u; engine answers %llu %llu, brute force %llu %llu\n", (unsigned)a->number, (unsigned long long)(got >> 32),
+    printf("  graph %u; engine answers %llu %llu, brute force %llu %llu\n", (unsigned)a->number, (unsigned long long)(got >> 32),
            (unsigned long long)(got & 0xFFFFFFFFu), (unsigned long long)(want >> 32), (unsigned long long)(want & 0xFFFFFFFFu));
     show_buffer("buffer", &buffer);
     show_buffer("tallies", &tallies);
     show_part(a->call == GATES ? "gates" : "card", &card);
     show_part("second card", &second);
     show_part(a->call == JOIN ? "wires" : "vectors", &vectors);
+    if (a->call == FAULT)
+        show_part("faults", &faults);
 }
 
 static void count_call(uint64_t answer)
@@ -105,6 +107,12 @@ static void count_call(uint64_t answer)
         compared.done++;
 }
 
+/* Whether the parts that are only read are as they were. */
+static int all_kept(void)
+{
+    return is_right(&card) && is_right(&second) && is_right(&vectors) && is_right(&faults);
+}
+
 uint64_t compare(const struct asked *a, size_t room, size_t tallies_room)
 {
     struct asked lent = *a;
@@ -112,12 +120,13 @@ uint64_t compare(const struct asked *a, size_t room, size_t tallies_room)
     lent.card = lend(&card, a->card, a->card_len);
     lent.second = lend(&second, a->second, a->second_len);
     lent.vectors = lend(&vectors, a->vectors, a->vectors_len);
+    lent.faults = lend(&faults, a->faults, a->faults_len);
     compared.buffer = lend_buffer(&buffer, room);
     compared.tallies = lend_buffer(&tallies, tallies_room);
     want = ask_brute(&lent, buffer.should + buffer.front, room, tallies.should + tallies.front, tallies_room);
     got = ask_engine(&lent, buffer.now + buffer.front, room, tallies.now + tallies.front, tallies_room);
     count_call(want);
-    if (got != want || !is_right(&buffer) || !is_right(&tallies) || !is_right(&card) || !is_right(&second) || !is_right(&vectors))
+    if (got != want || !is_right(&buffer) || !is_right(&tallies) || !all_kept())
         show_difference(a, got, want);
     return want;
 }

@@ -9,7 +9,7 @@
 #include "calls.h"
 #include "gen.h"
 
-enum { COMPARE_ROOM = 4 * GEN_VECTOR_ROOM + 8, COMPARE_RULES = 16 }; /* the most bytes of a part; refusals */
+enum { COMPARE_ROOM = 4 * GEN_VECTOR_ROOM + 8, COMPARE_RULES = 17 }; /* the most bytes of a part; refusals */
 
 /* What has come of all calls so far; and for what is said of a difference, the input that they are on. */
 extern struct compared {

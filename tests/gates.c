@@ -1,7 +1,7 @@
 /* gates.c: card_from_gates against gate lists worked out by themselves (gatesim.h). Its words and its refusals; and of the
- * cards that it makes the values with every fault in, the marks, the tallies and the marked count, all of which must be
- * those of the gates. By hand: every refusal with every other one broken too, the limits, each function, c17 and the
- * 74S181. Then generated lists, right ones and spoilt ones.
+ * cards that it makes the values with every fault in and with several together, the marks, the tallies and the marked
+ * count, all of which must be those of the gates. By hand: every refusal with every other one broken too, the limits, each
+ * function, c17 and the 74S181. Then generated lists, right ones and spoilt ones.
  *
  *   gates [SEED]    the seed of the part that differs from run to run
  *
@@ -18,6 +18,7 @@
 
 enum { SMALL_LISTS = 4000, FRESH_LISTS = 500, LIMIT_LISTS = 66, CARD_WORDS = 9216 };
 enum { MOST_VALUES = 300, MOST_FAULTS = 2000, SAMPLED = 60 }; /* with a larger list some of its faults are put in, else each */
+enum { TOGETHER = 4 };                                        /* lists of several faults, of each vector */
 
 #define ENOUGH (4 * (size_t)CARD_WORDS)
 
@@ -30,7 +31,7 @@ static struct {
     unsigned single;                   /* lines whose faults do not count */
     unsigned odd_gates[4], odd_room[4]; /* leftovers of 1 to 3 bytes */
     unsigned lines[2], leads[2];        /* lists at the limit, and beyond it */
-    unsigned values, gradings, faults, caught;
+    unsigned values, several_in, gradings, faults, caught; /* the second with two faults in or more */
 } total;
 
 static struct input list;
@@ -83,27 +84,50 @@ static void compare_numbers(struct asked *a)
         differ("the card's numbers");
 }
 
-static void values_with(struct asked *a, long fault)
+/* The values of all lines under one vector, with these faults in. */
+static void values_with(struct asked *a, const struct fault_list *in)
 {
-    a->call = fault == GATESIM_NO_FAULT ? GOOD : FAULT;
-    a->number = (uint32_t)fault;
-    gatesim_values(&g, a->vectors, fault, want);
+    static uint8_t faults[4 * GEN_TOGETHER];
+    a->faults = faults;
+    a->faults_len = gen_bytes(in->number, in->count, 0, faults);
+    gatesim_values(&g, a->vectors, faults, a->faults_len, want);
     if (ask_engine(a, got, sizeof got, NULL, 0) || memcmp(got, want, 4 * (size_t)g.lines))
         differ("the values of lines");
     total.values++;
+    total.several_in += in->count > 1;
 }
 
-/* The values of all lines, with no fault and with each; of a large list with some. As many vectors as can be afforded. */
+/* With no fault in, with each by itself and with some together; of a large list with some by themselves. */
+static void one_vector(struct asked *a, const struct places *p)
+{
+    static struct fault_list in;
+    unsigned faults = gatesim_faults(&g), large = faults > MOST_FAULTS;
+    gen_faults(&in, p, 0);
+    a->call = GOOD;
+    values_with(a, &in);
+    a->call = FAULT;
+    values_with(a, &in);
+    in.count = 1;
+    for (unsigned k = 0; k < (large ? SAMPLED : faults); k++) {
+        in.number[0] = large ? gen_below(faults) : k;
+        values_with(a, &in);
+    }
+    for (unsigned k = 0; k < TOGETHER; k++) {
+        gen_faults(&in, p, 2 + gen_below(GEN_TOGETHER - 1));
+        values_with(a, &in);
+    }
+}
+
+/* As many vectors as can be afforded. */
 static void compare_values(struct asked *a, const uint8_t *vectors, size_t len)
 {
-    unsigned faults = gatesim_faults(&g), large = faults > MOST_FAULTS;
-    size_t most = 1 + MOST_VALUES / faults;
+    static struct places p;
+    size_t most = 1 + MOST_VALUES / gatesim_faults(&g);
+    gen_places(&list, &p);
     a->vectors_len = 4 * (size_t)((g.inputs + 15) / 16);
     for (size_t v = 0; v < most && v < len / a->vectors_len; v++) {
         a->vectors = vectors + v * a->vectors_len;
-        values_with(a, GATESIM_NO_FAULT);
-        for (unsigned k = 0; k < (large ? SAMPLED : faults); k++)
-            values_with(a, large ? gen_below(faults) : k);
+        one_vector(a, &p);
     }
 }
 
@@ -582,7 +606,7 @@ static void c17(void)
     for (unsigned v = 0; v < 32; v++) {
         uint8_t vector[4] = { 0xA0, 0, 0, (uint8_t)v };
         unsigned i1 = v & 1, i2 = v >> 1 & 1, i3 = v >> 2 & 1, i6 = v >> 3 & 1, i7 = v >> 4 & 1, both = i3 & i6;
-        gatesim_values(&g, vector, GATESIM_NO_FAULT, want);
+        gatesim_values(&g, vector, NULL, 0, want);
         if (word_at(want, n22) != ((i1 & i3) | (i2 & !both)) || word_at(want, n23) != ((i2 | i7) & !both))
             differ("c17's function");
     }
@@ -664,7 +688,7 @@ static void check_alu(void)
         uint8_t vector[4] = { 0xA0, 0, (uint8_t)(v >> 8), (uint8_t)v };
         unsigned a = v & 15, b = v >> 4 & 15, s = v >> 8 & 15, m = v >> M & 1, f = 0;
         unsigned sum = alu_sum(s, a, b) + 1 - (v >> CN & 1);
-        gatesim_values(&g, vector, GATESIM_NO_FAULT, want);
+        gatesim_values(&g, vector, NULL, 0, want);
         for (unsigned i = 0; i < 4; i++)
             f |= word_at(want, alu.f[i]) << i;
         if (f != (m ? alu_logic(s, a, b) : sum & 15) || word_at(want, alu.equal) != (f == 15)
@@ -731,7 +755,8 @@ static int reached_too_little(void)
     few += too_few("gates with a line twice", total.twice, 2000) + too_few("gates that nobody reads", total.unread, 2000);
     few += too_few("observable gates that are read", total.passed_on, 2000);
     few += too_few("lines that do not count", total.single, 2000);
-    return few + too_few("values", total.values, 500000) + too_few("caught faults", total.caught, 100000)
+    few += too_few("values", total.values, 500000) + too_few("values with several faults in", total.several_in, 50000);
+    return few + too_few("caught faults", total.caught, 100000)
            + too_few("faults that are not caught", total.faults - total.caught, 100000);
 }
 
@@ -749,8 +774,8 @@ static void report(void)
            total.odd_gates[3], total.odd_room[1], total.odd_room[2], total.odd_room[3]);
     printf("gates: with 1024 lines %u, more %u; with 4096 leads %u, more %u\n", total.lines[0], total.lines[1], total.leads[0],
            total.leads[1]);
-    printf("gates: %u values and %u gradings of %u faults, %u caught, as of the gates\n", total.values, total.gradings,
-           total.faults, total.caught);
+    printf("gates: %u values, %u with several faults in, and %u gradings of %u faults, %u caught, as of the gates\n", total.values,
+           total.several_in, total.gradings, total.faults, total.caught);
     printf("gates: %u gate lists accepted, %u refused, %u by hand, %u differ\n", total.accepted, total.refused, total.by_hand,
            compared.differ);
 }

@@ -125,30 +125,53 @@ uint64_t gatesim_take(struct gate_list *g, const uint8_t *gates, size_t len)
     return 0;
 }
 
-/* ---- values: 64 copies of the list side by side, one in each bit of a value, each with a fault of its own ---- */
+/* ---- values: 64 copies of the list side by side, one in each bit of a value, each with faults of its own ---- */
 
-/* The first fault of the copies where none has one. */
-enum { COPIES = 64, NONE_IN = -COPIES };
+enum { COPIES = 64, PLACES = GATESIM_LEADS + GATESIM_LINES };
+static const uint64_t all_copies = ~(uint64_t)0;
+
+/* The copies in which a place is stuck at 0, and at 1. The leads are places, and after them the lines; they have two faults
+ * each. Places before the first one and from the end on are not stuck, so that they need not be looked up. */
+static struct {
+    unsigned first, end;
+    uint64_t at[2][PLACES];
+} in;
 
 unsigned gatesim_faults(const struct gate_list *g)
 {
     return 2 * g->leads + 2 * g->lines;
 }
 
-/* A place's value in all copies, where it would be `value`: fault number `fault` is that it is stuck at 0, the next one that
- * it is stuck at 1, and copy i has fault base + i in. */
-static uint64_t stuck(uint64_t value, long fault, long base)
+static void put_in(uint32_t fault, uint64_t copies)
 {
-    if (fault < base || fault >= base + COPIES)
+    unsigned place = fault / 2;
+    if (in.first == in.end) /* none is in yet */
+        in.first = in.end = place;
+    if (place < in.first)
+        in.first = place;
+    if (place >= in.end)
+        in.end = place + 1;
+    in.at[fault % 2][place] |= copies;
+}
+
+static void take_all_out(void)
+{
+    for (; in.first < in.end; in.first++)
+        in.at[0][in.first] = in.at[1][in.first] = 0;
+}
+
+/* A place's value in all copies, where it would be `value` with no fault at this place. */
+static uint64_t stuck(uint64_t value, unsigned place)
+{
+    if (place < in.first || place >= in.end)
         return value;
-    value &= ~((uint64_t)1 << (fault - base));
-    return value | (uint64_t)2 << (fault - base);
+    return (value & ~in.at[0][place]) | in.at[1][place];
 }
 
 /* The truth function of a gate, of the values on its n leads. */
 static uint64_t gate_value(unsigned function, const uint64_t *leads, unsigned n)
 {
-    uint64_t all = ~(uint64_t)0, any = 0;
+    uint64_t all = all_copies, any = 0;
     for (unsigned k = 0; k < n; k++) {
         all &= leads[k];
         any |= leads[k];
@@ -165,43 +188,49 @@ static uint64_t gate_value(unsigned function, const uint64_t *leads, unsigned n)
 
 static uint64_t input_value(const uint8_t *vector, unsigned i)
 {
-    return get_word(vector, i / 16) >> i % 16 & 1 ? ~(uint64_t)0 : 0;
+    return get_word(vector, i / 16) >> i % 16 & 1 ? all_copies : 0;
 }
 
-/* The values of all lines, with faults base to base + 63 in. */
-static void work_out(const struct gate_list *g, const uint8_t *vector, long base, uint64_t *lines)
+/* The values of all lines, with the faults that are in. */
+static void work_out(const struct gate_list *g, const uint8_t *vector, uint64_t *lines)
 {
     static uint64_t leads[GATESIM_LEADS];
     for (unsigned l = 0; l < g->lines; l++) {
         unsigned n = g->first[l + 1] - g->first[l];
         for (unsigned k = 0; k < n; k++) {
             unsigned j = g->first[l] + k;
-            leads[k] = stuck(lines[g->from[j]], 2L * j, base);
+            leads[k] = stuck(lines[g->from[j]], j);
         }
         lines[l] = g->kind[l] == 0 ? input_value(vector, l) : gate_value(g->function[l], leads, n);
-        lines[l] = stuck(lines[l], 2L * g->leads + 2L * l, base);
+        lines[l] = stuck(lines[l], g->leads + l);
     }
 }
 
-void gatesim_values(const struct gate_list *g, const uint8_t *vector, long fault, uint8_t *values)
+void gatesim_values(const struct gate_list *g, const uint8_t *vector, const uint8_t *faults, size_t faults_len, uint8_t *values)
 {
     static uint64_t lines[GATESIM_LINES];
-    unsigned copy = fault == GATESIM_NO_FAULT ? 0 : (unsigned)fault % COPIES;
-    work_out(g, vector, fault == GATESIM_NO_FAULT ? NONE_IN : fault - (long)copy, lines);
+    for (size_t i = 0; i < faults_len / 4; i++)
+        put_in(get_word(faults, i), all_copies);
+    work_out(g, vector, lines);
+    take_all_out();
     for (unsigned l = 0; l < g->lines; l++)
-        put_word(values, l, lines[l] >> copy & 1);
+        put_word(values, l, lines[l] & 1);
 }
 
 /* ---- which faults vectors catch ---- */
 
 static uint32_t first_vector[GATESIM_FAULTS], tally[GATESIM_FAULTS];
 
-/* Of faults base to base + 63 those with which an observable gate has another value than with none. */
-static uint64_t caught_from(const struct gate_list *g, const uint8_t *vector, const uint64_t *good, long base)
+/* Of faults base to base + 63, as far as there are so many, those with which an observable gate has another value than with
+ * none. Copy i has fault base + i in. */
+static uint64_t caught_from(const struct gate_list *g, const uint8_t *vector, const uint64_t *good, unsigned base)
 {
     static uint64_t lines[GATESIM_LINES];
     uint64_t caught = 0;
-    work_out(g, vector, base, lines);
+    for (unsigned f = base; f < gatesim_faults(g) && f < base + COPIES; f++)
+        put_in(f, (uint64_t)1 << (f - base));
+    work_out(g, vector, lines);
+    take_all_out();
     for (unsigned l = 0; l < g->lines; l++)
         if (g->kind[l] == 2)
             caught |= lines[l] ^ good[l];
@@ -212,7 +241,7 @@ static uint64_t caught_from(const struct gate_list *g, const uint8_t *vector, co
 static void take_in(const struct gate_list *g, const uint8_t *vector, uint32_t v)
 {
     static uint64_t good[GATESIM_LINES];
-    work_out(g, vector, NONE_IN, good);
+    work_out(g, vector, good);
     for (unsigned base = 0; base < gatesim_faults(g); base += COPIES) {
         uint64_t caught = caught_from(g, vector, good, base);
         for (unsigned f = base; f < gatesim_faults(g) && f < base + COPIES; f++)

@@ -112,16 +112,25 @@ static void put_inputs(struct input *in, unsigned count)
     in->card_odd = 0;
 }
 
+static void put_header(struct input *in, unsigned n, int observable)
+{
+    put(in, (observable ? 0x40000000u : 0x20000000u) + n);
+    in->graphs++;
+    in->nodes += n;
+}
+
+static void put_node(struct input *in, unsigned read, unsigned exit0, unsigned exit1)
+{
+    put(in, 0x60000000u + (gen_chance(style.invert) ? 0x10000u : 0) + read);
+    put(in, 0x80000000u + (exit0 << 14) + exit1);
+}
+
 static void put_graph(struct input *in, unsigned n, int observable)
 {
     make_exits(n);
-    put(in, (observable ? 0x40000000u : 0x20000000u) + n);
-    for (unsigned k = 0; k < n; k++) {
-        put(in, 0x60000000u + (gen_chance(style.invert) ? 0x10000u : 0) + pick_read(in->graphs));
-        put(in, 0x80000000u + (exits[k][0] << 14) + exits[k][1]);
-    }
-    in->graphs++;
-    in->nodes += n;
+    put_header(in, n, observable);
+    for (unsigned k = 0; k < n; k++)
+        put_node(in, pick_read(in->graphs - 1), exits[k][0], exits[k][1]);
 }
 
 void gen_small_card(struct input *in, unsigned most_inputs)
@@ -140,6 +149,28 @@ void gen_small_card(struct input *in, unsigned most_inputs)
     put_graph(in, 1 + gen_below(size), 1);
     if (gen_chance(20)) /* a hidden graph last */
         put_graph(in, 1 + gen_below(size), 0);
+}
+
+/* The node for one graph, then either of two for the other one. With inverted reads it is also equality, or neither. */
+static void put_unequal(struct input *in, int observable)
+{
+    unsigned one = pick_read(in->graphs), other = pick_read(in->graphs);
+    put_header(in, 3, observable);
+    put_node(in, one, 3, 4);
+    put_node(in, other, 0, 1);
+    put_node(in, other, 1, 0);
+}
+
+void gen_unequal_card(struct input *in)
+{
+    pick_style();
+    put_inputs(in, 2 + gen_below(5));
+    for (unsigned outs = gen_below(8); outs > 0; outs--)
+        if (gen_chance(70))
+            put_unequal(in, gen_chance(style.observe));
+        else
+            put_graph(in, 1 + gen_below(3), gen_chance(style.observe));
+    put_unequal(in, 1);
 }
 
 /* So many graphs with so many nodes in all, spread at random. */
@@ -519,6 +550,129 @@ void gen_spoil_wires(struct input *in, unsigned graphs)
     case 2: in->vectors_odd = 1 + gen_below(3); break;
     case 3: in->vectors[at] = far[gen_below(6)]; break;
     default: in->vectors[at] = graphs + gen_below(2);
+    }
+}
+
+/* ---- lists of faults ---- */
+
+/* A header is a graph, and a read or a lead (kind 3) a node of the graph before it. */
+void gen_places(const struct input *in, struct places *p)
+{
+    p->nodes = p->graphs = 0;
+    for (size_t i = 0; i < in->card_words; i++) {
+        uint32_t w = in->card[i];
+        if (w >> 29 < 3)
+            p->kind[p->graphs++] = w >> 29;
+        if (w >> 29 == 3) {
+            p->home[p->nodes] = p->graphs - (p->graphs > 0);
+            p->read[p->nodes++] = w & 0xFFFF;
+        }
+    }
+}
+
+/* The next node from any one on, in turn, that stands in the graph or reads it; that one where there is none. */
+static unsigned node_at(const struct places *p, const unsigned *graphs, unsigned graph)
+{
+    unsigned from = gen_below(p->nodes), j = from;
+    while (graphs[j] != graph && (j + 1) % p->nodes != from)
+        j = (j + 1) % p->nodes;
+    return j;
+}
+
+/* A place that meets this one, or just any one. */
+static unsigned pick_place(const struct places *p, unsigned place)
+{
+    unsigned all = p->nodes + p->graphs;
+    if (p->nodes == 0 || place >= all || gen_chance(30))
+        return gen_below(all);
+    if (place >= p->nodes)
+        return node_at(p, gen_chance(50) ? p->home : p->read, place - p->nodes);
+    switch (gen_below(3)) {
+    case 0: return node_at(p, p->home, p->home[place]);
+    case 1: return p->nodes + p->home[place];
+    default: return p->nodes + p->read[place];
+    }
+}
+
+static int has_place(const struct fault_list *l, unsigned place)
+{
+    for (size_t i = 0; i < l->count; i++)
+        if (l->number[i] / 2 == place)
+            return 1;
+    return 0;
+}
+
+/* Adds numbers of further places, up to so many; as far as there are places. */
+static void lengthen(struct fault_list *l, const struct places *p, size_t count)
+{
+    unsigned all = p->nodes + p->graphs;
+    while (l->count < count && l->count < all) {
+        unsigned place = l->count ? pick_place(p, l->number[gen_below((uint32_t)l->count)] / 2) : gen_below(all);
+        while (has_place(l, place))
+            place = (place + 1) % all;
+        l->number[l->count++] = 2 * place + gen_below(2);
+    }
+}
+
+void gen_faults(struct fault_list *l, const struct places *p, unsigned count)
+{
+    l->count = l->odd = 0;
+    lengthen(l, p, count);
+}
+
+/* Puts a number in, between any two or last, or in the place of another one. */
+static void put_fault(struct fault_list *l, uint32_t fault)
+{
+    size_t at = gen_chance(30) ? l->count : gen_below((uint32_t)l->count + 1);
+    if (at < l->count && gen_chance(40))
+        l->number[at] = fault;
+    else
+        insert(l->number, &l->count, GEN_FAULTS_ROOM, at, fault);
+}
+
+static uint32_t too_high(uint32_t faults)
+{
+    static const uint32_t far[] = { 0x7FFFFFFF, 0x80000000, 0xFFFFFFFF, 0xFFFFFFFE, 0x10000, 10240 };
+    switch (gen_below(4)) {
+    case 0: return far[gen_below(6)];
+    case 1: return gen_below(faults) + (1u << (16 + gen_below(16))); /* its lower half is right */
+    default: return faults + gen_below(3);
+    }
+}
+
+/* Nine numbers or more, of other places as far as there are so many, and then of any. */
+static void overfill(struct fault_list *l, const struct places *p)
+{
+    size_t count = GEN_TOGETHER + 1;
+    if (gen_chance(50))
+        count += gen_below(gen_chance(80) ? 8 : GEN_FAULTS_ROOM - 50);
+    lengthen(l, p, count);
+    while (l->count < count)
+        l->number[l->count++] = gen_below(2 * (p->nodes + p->graphs));
+}
+
+void gen_spoil_faults(struct fault_list *l, const struct places *p)
+{
+    uint32_t faults = 2 * (p->nodes + p->graphs), one = l->count ? l->number[gen_below((uint32_t)l->count)] : gen_below(faults);
+    switch (gen_below(6)) {
+    case 0: l->odd = 1 + gen_below(3); break;
+    case 1: put_fault(l, one); break;
+    case 2: put_fault(l, one ^ 1); break;
+    case 3: overfill(l, p); break;
+    case 4: put_fault(l, too_high(faults)); break;
+    default:
+        overfill(l, p);
+        insert(l->number, &l->count, GEN_FAULTS_ROOM, l->count, too_high(faults));
+    }
+}
+
+void gen_shuffle(struct fault_list *l)
+{
+    for (size_t i = l->count; i > 1; i--) {
+        size_t k = gen_below((uint32_t)i);
+        uint32_t w = l->number[i - 1];
+        l->number[i - 1] = l->number[k];
+        l->number[k] = w;
     }
 }
 

@@ -1,4 +1,5 @@
-/* gen.h: generated cards, gate lists and vectors, right ones and spoilt ones. The same seed gives the same inputs. */
+/* gen.h: generated cards, gate lists, vectors and lists of faults, right ones and spoilt ones. The same seed gives the same
+ * inputs. */
 #ifndef GEN_H
 #define GEN_H
 
@@ -24,6 +25,10 @@ int gen_chance(unsigned percent);
 /* A small odd card: equal exits, graphs that nobody reads, observable graphs with readers, and reads
  * of the same graph along several ways. Half of all cards have inverted reads, a quarter of their reads or more. */
 void gen_small_card(struct input *in, unsigned most_inputs);
+
+/* A small card, most of whose graphs tell whether two others are unequal: most faults are seen, and two often mask each
+ * other. */
+void gen_unequal_card(struct input *in);
 
 /* A card at a limit, or one beyond it. Shapes go round with the number. */
 enum { GEN_LIMIT_SHAPES = 12 };
@@ -52,6 +57,35 @@ void gen_spoil_card(struct input *in);
 void gen_spoil_vectors(struct input *in);
 void gen_spoil_wires(struct input *in, unsigned graphs);
 void gen_spoil_gates(struct input *in);
+
+/* Where a card's faults are: its nodes, and then its graphs; of a gate list its leads and lines. They are those of the words
+ * as they stand, and of a right card exactly its own. */
+struct places {
+    unsigned nodes, graphs;
+    unsigned home[GEN_CARD_ROOM], read[GEN_CARD_ROOM]; /* the graph that a node stands in, and the one that it reads */
+    unsigned kind[GEN_CARD_ROOM];                      /* of a graph's header */
+};
+
+void gen_places(const struct input *in, struct places *p);
+
+enum { GEN_FAULTS_ROOM = 700, GEN_TOGETHER = 8 }; /* the most numbers of a list that is made here, and of a right one */
+
+struct fault_list {
+    uint32_t number[GEN_FAULTS_ROOM];
+    size_t count;
+    unsigned odd; /* leftover bytes */
+};
+
+/* A list of so many numbers, or of fewer where there are fewer places. No two are of one place, and often they are of places that
+ * meet: nodes of one graph, a node and the graph that it stands in, a graph and the nodes that read it. */
+void gen_faults(struct fault_list *l, const struct places *p, unsigned count);
+
+/* Leftover bytes, a number repeated, both faults of one place, more than eight numbers, or one that is too high, be it the ninth
+ * or a later one. */
+void gen_spoil_faults(struct fault_list *l, const struct places *p);
+
+/* The same numbers in any order. */
+void gen_shuffle(struct fault_list *l);
 
 /* Words as bytes, with leftover bytes after them; the number of bytes. */
 size_t gen_bytes(const uint32_t *words, size_t count, unsigned odd, uint8_t *bytes);

@@ -97,13 +97,27 @@ static size_t words_of(enum call call, const struct input *in)
     }
 }
 
-/* A fault's or a graph's number: mostly below the limit, else at it or far beyond. */
+/* A graph's number: mostly below the limit, else at it or far beyond. */
 static uint32_t pick_number(uint32_t limit)
 {
     static const uint32_t far[] = { 0x7FFFFFFF, 0x80000000, 0xFFFFFFFF, 0x10000, 10240 };
     if (gen_chance(90))
         return gen_below(limit);
     return gen_chance(60) ? limit + gen_below(3) : far[gen_below(5)];
+}
+
+/* A list of faults for the card; mostly a right one. tests/faultlists.c looks at such lists more closely. */
+static void pick_faults(struct asked *a, const struct input *in)
+{
+    static struct places p;
+    static struct fault_list l;
+    static uint8_t faults[4 * GEN_FAULTS_ROOM + 4];
+    gen_places(in, &p);
+    gen_faults(&l, &p, gen_below(GEN_TOGETHER + 1));
+    for (unsigned percent = 15; gen_chance(percent); percent = 30) /* now and then in two ways */
+        gen_spoil_faults(&l, &p);
+    a->faults = faults;
+    a->faults_len = gen_bytes(l.number, l.count, l.odd, faults);
 }
 
 static int is_single(enum call call)
@@ -120,7 +134,7 @@ static void one_call(struct asked *a, enum call call, const struct input *in, si
     a->vectors_len = list_len;
     if (is_single(call) && list_len > one && gen_chance(95))
         a->vectors_len = one;
-    a->number = pick_number(call == FAULT ? (uint32_t)words_of(GRADE, in) : in->graphs);
+    a->number = pick_number(in->graphs);
     count_room(room, words);
     if (call == GRADE)
         count_room(tallies_room, words);
@@ -139,6 +153,7 @@ static void one_input(const struct input *in)
 {
     static uint8_t card[COMPARE_ROOM], vectors[COMPARE_ROOM];
     struct asked a = { .card = card, .vectors = vectors };
+    pick_faults(&a, in);
     size_t list_len = gen_bytes(in->vectors, in->vector_words, in->vectors_odd, vectors);
     a.card_len = gen_bytes(in->card, in->card_words, in->card_odd, card);
     compared.inputs++;
@@ -200,6 +215,9 @@ static void long_lists(unsigned cards)
 
 /* ---- the report ---- */
 
+static const unsigned rules[] = { 1, 2, 3, 4, 5, 6, 7, 8, 9, 10, 11, 12, 17 };
+enum { RULES = sizeof rules / sizeof *rules };
+
 static int reached_too_little(void)
 {
     int few = too_few("inputs", compared.inputs, 20000) + too_few("accepted cards at the limits", total.limits_accepted, 100);
@@ -209,8 +227,8 @@ static int reached_too_little(void)
     few += too_few("calls that are done", 3 * compared.done, compared.calls);
     few += too_few("leftovers in cards", total.odd_card, 500) + too_few("leftovers in vectors", total.odd_vectors, 500);
     few += too_few("leftovers in buffers", total.odd_buffer, 5000) + too_few("short buffers", total.short_buffer, 5000);
-    for (unsigned r = 1; r <= 12; r++)
-        few += too_few("one refusal", compared.refusals[r], 20);
+    for (unsigned i = 0; i < RULES; i++)
+        few += too_few("one refusal", compared.refusals[rules[i]], 20);
     for (int i = 0; i < GRADED; i++)
         few += too_few(grades[i].name, total.grade[i], grades[i].least);
     return few + too_few("caught faults of leads", compared.caught_pairs[0], 3000)
@@ -222,8 +240,8 @@ static void report(void)
     printf("host: %u inputs, %u cards accepted, %u with inverted reads; at the limits or one beyond %u inputs, %u accepted; %u calls, %u done\n",
            compared.inputs, total.cards_accepted, total.inverted, total.limits, total.limits_accepted, compared.calls, compared.done);
     printf("host: refusals");
-    for (unsigned r = 1; r <= 12; r++)
-        printf(" %u:%u", r, compared.refusals[r]);
+    for (unsigned i = 0; i < RULES; i++)
+        printf(" %u:%u", rules[i], compared.refusals[rules[i]]);
     printf("\nhost: leftovers in %u cards, %u vectors, %u buffers; %u buffers short, %u long\n", total.odd_card,
            total.odd_vectors, total.odd_buffer, total.short_buffer, total.long_buffer);
     printf("host: card_grade");

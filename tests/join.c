@@ -26,7 +26,7 @@ static struct {
     unsigned card_refusals[2][10];                 /* of A and of B */
     unsigned odd[4][4];                            /* leftovers of 1 to 3 bytes in A, B, wires, buffer */
     unsigned graphs[2], nodes[2];                  /* joined cards at the limit, and one beyond */
-    unsigned values, gradings, faults;
+    unsigned values, over_both, gradings, faults; /* the second with faults of A and of B in */
 } total;
 
 /* The numbers of a card, or those that were meant where it is refused. */
@@ -83,19 +83,51 @@ static void count_stages(const int *broken)
 
 static uint8_t got[4 * FAULTS], want[4 * FAULTS], got_tallies[4 * FAULTS], want_tallies[4 * FAULTS];
 
-/* The values of all graphs, with no fault and with one. */
-static void compare_values(struct asked *a, const struct numbers *n)
+/* Whether a fault of the joined card is one of A's: its nodes come first, and each of its inputs and outputs before B's. */
+static int is_of_a(uint32_t fault, const struct numbers *n, const struct numbers *a)
 {
-    a->call = GOOD;
-    brute_together_values(a->vectors, BRUTE_NO_FAULT, want);
-    if (ask_engine(a, got, sizeof got, NULL, 0) || memcmp(got, want, 4 * (size_t)n->graphs))
+    unsigned place = fault / 2, outputs = a->graphs - a->inputs;
+    if (place < n->nodes)
+        return place < a->nodes;
+    place -= n->nodes;
+    return place < a->inputs || (place >= n->inputs && place < n->inputs + outputs);
+}
+
+static void count_halves(const struct fault_list *in, const struct numbers *n, const struct numbers *a)
+{
+    size_t of_a = 0;
+    for (size_t i = 0; i < in->count; i++)
+        of_a += (size_t)is_of_a(in->number[i], n, a);
+    total.over_both += of_a > 0 && of_a < in->count;
+}
+
+/* The values of all graphs, with these faults in. */
+static void values_with(struct asked *ask, const struct fault_list *in, const struct numbers *n)
+{
+    static uint8_t faults[4 * GEN_TOGETHER];
+    ask->faults = faults;
+    ask->faults_len = gen_bytes(in->number, in->count, 0, faults);
+    brute_together_values(ask->vectors, faults, ask->faults_len, want);
+    if (ask_engine(ask, got, sizeof got, NULL, 0) || memcmp(got, want, 4 * (size_t)n->graphs))
         differ("the joined card's values");
-    a->call = FAULT;
-    a->number = gen_below(2 * n->nodes + 2 * n->graphs);
-    brute_together_values(a->vectors, a->number, want);
-    if (ask_engine(a, got, sizeof got, NULL, 0) || memcmp(got, want, 4 * (size_t)n->graphs))
-        differ("the joined card's values with a fault in");
-    total.values += 2;
+    total.values++;
+}
+
+/* With no fault in, with one and with several. */
+static void compare_values(struct asked *ask, const struct input *joined, const struct numbers *n, const struct numbers *a)
+{
+    static struct places p;
+    static struct fault_list in;
+    gen_places(joined, &p);
+    gen_faults(&in, &p, 0);
+    ask->call = GOOD;
+    values_with(ask, &in, n);
+    ask->call = FAULT;
+    gen_faults(&in, &p, 1);
+    values_with(ask, &in, n);
+    gen_faults(&in, &p, 2 + gen_below(GEN_TOGETHER - 1));
+    values_with(ask, &in, n);
+    count_halves(&in, n, a);
 }
 
 /* Marks and tallies of a list. */
@@ -115,16 +147,18 @@ static void compare_grading(struct asked *a, const struct numbers *n)
     total.faults += (unsigned)faults;
 }
 
-static void work_out(const struct numbers *n, size_t words)
+static void work_out(const struct numbers *n, const struct numbers *of_a, size_t words)
 {
     static struct input joined;
     static uint8_t card[4 * GEN_CARD_ROOM], vectors[4 * 64 * 4];
     struct asked a = { .card = card, .card_len = 4 * words, .vectors = vectors };
     memcpy(card, compared.buffer, 4 * words);
     joined.inputs = n->inputs;
+    for (joined.card_words = 0; joined.card_words < words; joined.card_words++)
+        joined.card[joined.card_words] = word_at(card, joined.card_words);
     gen_vectors(&joined, 1 + gen_below(3));
     a.vectors_len = gen_bytes(joined.vectors, (n->inputs + 15) / 16, 0, vectors);
-    compare_values(&a, n);
+    compare_values(&a, &joined, n, of_a);
     if (2 * n->nodes + 2 * n->graphs > MOST_GRADED)
         return;
     a.vectors_len = gen_bytes(joined.vectors, joined.vector_words, 0, vectors);
@@ -159,7 +193,7 @@ static void one_pair(void)
     if (answer >> 32 == 0) {
         total.graphs[0] += n.graphs == 1024;
         total.nodes[0] += n.nodes == 4096;
-        work_out(&n, (size_t)answer);
+        work_out(&n, &a, (size_t)answer);
     } else if (answer >> 32 == 14) {
         total.graphs[1] += n.graphs == 1025 && n.nodes <= 4096;
         total.nodes[1] += n.nodes == 4097 && n.graphs <= 1024;
@@ -237,14 +271,15 @@ static int reached_too_little(void)
             few += too_few("leftovers in one part", total.odd[part][odd], 20);
     for (int beyond = 0; beyond < 2; beyond++)
         few += too_few("joined cards at a limit", total.graphs[beyond], 5) + too_few("joined cards at a limit", total.nodes[beyond], 5);
+    few += too_few("values with faults of both cards in", total.over_both, 2000);
     return few + too_few("gradings", total.gradings, 1000) + too_few("caught faults of leads", compared.caught_pairs[0], 3000)
            + too_few("caught faults of leads, crossed over", compared.caught_pairs[1], 1000);
 }
 
 static void report(void)
 {
-    printf("join: %u pairs, %u joined; %u values and %u gradings of %u faults as of the two together\n", compared.inputs,
-           compared.done, total.values, total.gradings, total.faults);
+    printf("join: %u pairs, %u joined; %u values, %u with faults of both in, and %u gradings of %u faults as of the two "
+           "together\n", compared.inputs, compared.done, total.values, total.over_both, total.gradings, total.faults);
     for (int card = 0; card < 2; card++) {
         printf("join: refusals of %s", stage_names[card]);
         for (unsigned r = 1; r <= 9; r++)

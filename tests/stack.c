@@ -14,7 +14,7 @@
 
 enum { STACK = 16 << 20, FILL = 0x5C, WORDS = 9216 };
 
-static uint8_t card[4 * WORDS], vector[4 * 64], wires[4 * 1024], buffer[4 * 10240], tallies[4 * 10240];
+static uint8_t card[4 * WORDS], vector[4 * 64], faults[4 * 8], wires[4 * 1024], buffer[4 * 10240], tallies[4 * 10240];
 static size_t words, vector_words;
 
 static void put_word(uint8_t *bytes, size_t at, uint32_t w)
@@ -93,11 +93,16 @@ static void take_in(struct asked *a)
         most[a->call] = used;
 }
 
-static void each_call(void)
+/* The longest list of faults: eight nodes are forced to the exits that they take anyway, so that all paths stay as long. They
+ * stand far apart, so that each graph still calls for the one below. */
+static void each_call(unsigned nodes)
 {
+    for (unsigned i = 0; i < 8; i++)
+        put_word(faults, i, 2 * (i * (nodes / 8)) + 1);
     for (int call = CHECK; call <= GRADE; call++) {
         struct asked a = { .call = (enum call)call, .card = card, .card_len = 4 * words, .vectors = vector, .vectors_len = 4 * vector_words };
-        a.number = call == FAULT; /* fault 1 forces the exit that is taken anyway, so that the path stays as long */
+        a.faults = faults;
+        a.faults_len = sizeof faults;
         take_in(&a);
     }
 }
@@ -133,11 +138,11 @@ int main(void)
 {
     size_t all = 0;
     make_card(1, 1, 4096); /* the longest path in one graph */
-    each_call();
+    each_call(4096);
     make_card(1, 1023, 4); /* the longest chain of graphs */
-    each_call();
+    each_call(4092);
     make_card(512, 512, 8); /* all three limits */
-    each_call();
+    each_call(4096);
     make_card(512, 256, 8); /* twice half of them */
     join_itself(512, 768);
     make_card(1, 1, 2048);

@@ -7,7 +7,7 @@ use lib.ListN.{getD}
 use Rattle.answers.specs.declared.Rule.{Rule}
 use Rattle.answers.specs.declared.Rule.the-variants.{CardTooLong, TooManyGraphs, NodeCount, WordNotDue, StrayBit, ReadNotBelow, ExitNotLater}
 use Rattle.answers.specs.declared.Rule.the-variants.{NodeNotNamed, NothingObservable, VectorForm, NumberTooHigh, BufferTooShort, WireForm, JoinedTooLarge}
-use Rattle.answers.specs.declared.Rule.the-variants.{GateForm, LeadNotEarlier}
+use Rattle.answers.specs.declared.Rule.the-variants.{GateForm, LeadNotEarlier, FaultListForm}
 use Rattle.answers.specs.declared.Answer.{Answer}
 use Rattle.answers.specs.declared.Answer.the-variants as answer
 use Rattle.answers.specs.declared.Reply.{Reply}
@@ -19,7 +19,7 @@ abbrev rules : List Rule
 rules =
     CardTooLong ∷ TooManyGraphs ∷ NodeCount ∷ WordNotDue ∷ StrayBit ∷ ReadNotBelow
     ∷ ExitNotLater ∷ NodeNotNamed ∷ NothingObservable ∷ VectorForm ∷ NumberTooHigh ∷ BufferTooShort
-    ∷ WireForm ∷ JoinedTooLarge ∷ GateForm ∷ LeadNotEarlier ∷ []
+    ∷ WireForm ∷ JoinedTooLarge ∷ GateForm ∷ LeadNotEarlier ∷ FaultListForm ∷ []
 
 abbrev ruleOf : ℕ → Rule
 ruleOf n = getD rules (n - 1) CardTooLong
@@ -42,6 +42,7 @@ rule-of WireForm = refl
 rule-of JoinedTooLarge = refl
 rule-of GateForm = refl
 rule-of LeadNotEarlier = refl
+rule-of FaultListForm = refl
 
 -- and no rule has the number 0
 pub number-some : (r : Rule) → 0 < numberOf r

@@ -10,8 +10,8 @@ use Rattle.answers.specs.declared.Verdict.the-variants.{Sound, Broken}
 use Rattle.answers.specs.declared.Answer.{Answer}
 use Rattle.answers.specs.declared.Answer.the-variants as answer
 use Rattle.answers.specs.declared.Reply.the-variants as reply
-use Rattle.answers.specs.Tests.{Test, firstBroken, onward}
-use Rattle.answers.specs.Calls.{opened, callTests, doneBy, replied, written}
+use Rattle.answers.specs.Tests.{Test, firstBroken, andThen, onward}
+use Rattle.answers.specs.Calls.{opened, callTests, doneBy, leftBy, replied, written}
 
 pub not-accepted : {r : Rule} {p : ℕ} {c : Counts} → answer.Refused r p ≡ answer.Accepted c → ⊥
 not-accepted e = let z : _≡_ {A = ℕ} 0 1 = cc in omega arith
@@ -108,3 +108,27 @@ module _ (a : Answer) (form : Counts → Verdict) (own : Counts → List Test) (
     pub two-done : firstBroken (own c) ≡ Sound
         → (reply.Done (number c) ≡ replied a (tests form own) number) × (one c ≡ written a (tests form own) one b) × (two c ≡ written a (tests form own) two d)
     two-done q = let s = call-done a form own number one b e q in (s .0, s .1, call-done a form own number two d e q .1)
+
+-- two calls on one card with one form, whose own tests have one verdict: they reply the same, and leave the same where the verdict is sound
+module _ (a : Answer) (form : Counts → Verdict) (own other : Counts → List Test) (same : (c : Counts) → firstBroken (own c) ≡ firstBroken (other c)) where
+  pub reply-same : (number : Counts → ℕ) → replied a (tests form own) number ≡ replied a (tests form other) number
+  unfolding replied
+  reply-same number = go a
+    where
+      go : (a : Answer) → replied a (tests form own) number ≡ replied a (tests form other) number
+      go (answer.Accepted c) = rw (same c)
+      go (answer.Refused r p) = refl
+
+  pub left-same : (one two : Counts → List ℕ) (before : List ℕ) → ((c : Counts) → firstBroken (other c) ≡ Sound → one c ≡ two c)
+      → written a (tests form own) one before ≡ written a (tests form other) two before
+  unfolding written
+  left-same one two before e = go a
+    where
+      by : (u v : Verdict) {b d : List ℕ} → (v ≡ Sound → b ≡ d) → leftBy (andThen u v) b before ≡ leftBy (andThen u v) d before
+      by Sound Sound h = h refl
+      by Sound (Broken r p) h = refl
+      by (Broken r p) v h = refl
+
+      go : (a : Answer) → written a (tests form own) one before ≡ written a (tests form other) two before
+      go (answer.Accepted c) = rw (same c) (by (form c) (firstBroken (other c)) (e c))
+      go (answer.Refused r p) = refl

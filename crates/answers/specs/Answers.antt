@@ -5,7 +5,7 @@ use mathlib.Core.List.{List, [], _∷_}
 use Rattle.answers.specs.declared.Rule.{Rule}
 use Rattle.answers.specs.declared.Rule.the-variants.{CardTooLong, TooManyGraphs, NodeCount, WordNotDue, StrayBit, ReadNotBelow, ExitNotLater}
 use Rattle.answers.specs.declared.Rule.the-variants.{NodeNotNamed, NothingObservable, VectorForm, NumberTooHigh, BufferTooShort, WireForm, JoinedTooLarge}
-use Rattle.answers.specs.declared.Rule.the-variants.{GateForm, LeadNotEarlier}
+use Rattle.answers.specs.declared.Rule.the-variants.{GateForm, LeadNotEarlier, FaultListForm}
 use Rattle.answers.specs.declared.Counts.{Counts}
 use Rattle.answers.specs.declared.Answer.{Answer}
 use Rattle.answers.specs.declared.Answer.the-variants as answer
@@ -30,6 +30,7 @@ numberOf WireForm = 13
 numberOf JoinedTooLarge = 14
 numberOf GateForm = 15
 numberOf LeadNotEarlier = 16
+numberOf FaultListForm = 17
 
 -- WHAT A CALL BY WORDS TELLS, in document 01's numbers: a refusal's number and position and no values, or values and both numbers 0. The words of a
 -- lent buffer have an equation of their own.

@@ -21,6 +21,7 @@ pub enum Rule {
     JoinedTooLarge,
     GateForm,
     LeadNotEarlier,
+    FaultListForm,
 }
 
 // The numbers that a check answers.
@@ -72,5 +73,6 @@ pub fn rule_number(rule: Rule) -> u32
         Rule::JoinedTooLarge => 14,
         Rule::GateForm => 15,
         Rule::LeadNotEarlier => 16,
+        Rule::FaultListForm => 17,
     }
 }

@@ -1,9 +1,8 @@
-// The calls for the fixture's host, in C: cards, vectors, wires and buffers are bytes, each word four of them, highest byte first, and the answer is one 64-bit
+// The calls for the fixture's host, in C: cards, vectors, lists of faults, wires and buffers are bytes, each word four of them, highest byte first, and the answer is one 64-bit
 // number.
 ghost use mathlib.Core.Path.{_≡_};
-ghost use mathlib.Core.List.{[], _∷_};
 ghost use Rattle.hostcheck.specs.Calls.{checkAnswer, checkBytes};
-ghost use Rattle.hostvalues.specs.Calls.{valuesAnswer, valuesBytes};
+ghost use Rattle.hostvalues.specs.Calls.{goodAnswer, goodBytes, faultAnswer, faultBytes};
 ghost use Rattle.hostchanges.specs.Calls.{changeAnswer, changeBytes, criticalAnswer, criticalBytes};
 ghost use Rattle.hostgrade.specs.Calls.{gradeAnswer, markBytes, tallyBytes};
 ghost use Rattle.hostjoin.specs.Calls.{joinAnswer, joinBytes};
@@ -21,24 +20,24 @@ pub extern "C" fn card_check(card: &[u8], numbers: &mut [u8]) -> u64
 // Good values: one word 0 or 1 for each graph.
 #[no_mangle]
 pub extern "C" fn card_good_values(card: &[u8], vector: &[u8], values: &mut [u8]) -> u64
-    ensures { λ r. ⌜ (r ≡ valuesAnswer (now (card .entry)) (now (vector .entry)) [] (now (values .entry)))
-        × (now (values .exit) ≡ valuesBytes (now (card .entry)) (now (vector .entry)) [] (now (values .entry))) ⌝ }
+    ensures { λ r. ⌜ (r ≡ goodAnswer (now (card .entry)) (now (vector .entry)) (now (values .entry)))
+        × (now (values .exit) ≡ goodBytes (now (card .entry)) (now (vector .entry)) (now (values .entry))) ⌝ }
 {
     hostvalues::good_values(card, vector, values)
 }
 
-// Values with one fault in.
+// Values with the faults of a list in, all holding together.
 #[no_mangle]
 pub extern "C" fn card_fault_values(
     card: &[u8],
     vector: &[u8],
-    fault: u32,
+    faults: &[u8],
     values: &mut [u8],
 ) -> u64
-    ensures { λ r. ⌜ (r ≡ valuesAnswer (now (card .entry)) (now (vector .entry)) (fault ∷ []) (now (values .entry)))
-        × (now (values .exit) ≡ valuesBytes (now (card .entry)) (now (vector .entry)) (fault ∷ []) (now (values .entry))) ⌝ }
+    ensures { λ r. ⌜ (r ≡ faultAnswer (now (card .entry)) (now (vector .entry)) (now (faults .entry)) (now (values .entry)))
+        × (now (values .exit) ≡ faultBytes (now (card .entry)) (now (vector .entry)) (now (faults .entry)) (now (values .entry))) ⌝ }
 {
-    hostvalues::fault_values(card, vector, fault, values)
+    hostvalues::fault_values(card, vector, faults, values)
 }
 
 // The change list of a graph: its length, and the numbers rising in the front of the buffer.

@@ -9,12 +9,12 @@ use lib.Dec.{ltb, leb, eqb}
 use Rattle.lists.specs.Counting.{choose, some-below, count}
 use Rattle.lists.specs.Tables.{at, tab, chosen, front}
 use Rattle.answers.specs.declared.Counts.{Counts}
-use Rattle.answers.specs.Answers.{Told, result, valuesOf}
+use Rattle.answers.specs.Answers.{Told, result, refusal, valuesOf}
 use Rattle.form.specs.Check.{checkTold}
 use Rattle.layout.specs.Layout.{first, standsIn}
 use Rattle.cardtables.specs.Stems.{inGrade, total}
 use Rattle.testvectors.specs.Vectors.{bit, vectors, vector}
-use Rattle.plain.specs.Calls.{goodTold, goodBuffer}
+use Rattle.plain.specs.Calls.{goodTold, goodBuffer, faultTold, faultBuffer}
 use Rattle.detect.specs.Detects.{detects}
 use Rattle.detect.specs.Grading.{markBy}
 use Rattle.rules.specs.Rules.{listed, criticalNode, marksNode, marksGraph}
@@ -42,6 +42,22 @@ pub record Grading : Type 0 where
   pub marks : List ℕ
   pub tallies : List ℕ
 
+-- a card under one vector with the faults of a list in: the graphs' values
+pub record Faulted : Type 0 where
+  pub card : List ℕ
+  pub counts : Counts
+  pub under : List ℕ
+  pub faults : List ℕ
+  pub values : List ℕ
+
+-- and a list that is refused, with a buffer of so many words: the refusal's number, its position being 0
+pub record Refused : Type 0 where
+  pub card : List ℕ
+  pub under : List ℕ
+  pub faults : List ℕ
+  pub room : ℕ
+  pub number : ℕ
+
 -- one graph of a card under each of some vectors: what it computes from the bits of the inputs
 pub record Function : Type 0 where
   pub card : List ℕ
@@ -55,6 +71,8 @@ pub data Row : Type 0 where
   case : Case → Row
   grading : Grading → Row
   function : Function → Row
+  faulted : Faulted → Row
+  refused : Refused → Row
 
 -- the numbers below n
 abbrev pub numbers : ℕ → List ℕ
@@ -145,8 +163,23 @@ FunctionHolds r =
     × (map (λ x. goodTold ws x (lent G)) (r .under) ≡ map (λ x. result (0 ∷ [])) (r .under))
     × (map (λ x. at (goodBuffer ws x (lent G)) (r .graph)) (r .under) ≡ map (λ x. flag (r .computes (λ i. eqb (bit x i) 1))) (r .under))
 
+-- values with faults hold by the check and by the call, whose buffer has a word more than it needs
+abbrev pub FaultedHolds : Faulted → Type 0
+FaultedHolds r =
+    let ws = r .card in
+    let x = r .under in
+    let n = r .counts .graphs + 1 in
+    (checkTold ws ≡ result (valuesOf (r .counts)))
+    × (call (faultTold ws x (r .faults)) (faultBuffer ws x (r .faults)) n ≡ done 0 (r .values) n)
+
+-- a refusal holds by the call, which leaves its buffer as it was
+abbrev pub RefusedHolds : Refused → Type 0
+RefusedHolds r = call (faultTold (r .card) (r .under) (r .faults)) (faultBuffer (r .card) (r .under) (r .faults)) (r .room) ≡ (refusal (r .number) 0, lent (r .room))
+
 -- WHAT A ROW SAYS
 abbrev pub Holds : Row → Type 0
 Holds (case r) = CaseHolds r
 Holds (grading r) = GradingHolds r
 Holds (function r) = FunctionHolds r
+Holds (faulted r) = FaultedHolds r
+Holds (refused r) = RefusedHolds r

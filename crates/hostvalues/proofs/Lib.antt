@@ -1,2 +1,3 @@
--- Where a broken test of the call stands.
+-- The tests of a list of faults in bytes, and what the calls give for lists.
 mod Laws
+pub mod Lists

@@ -6,3 +6,5 @@ pub mod Tables
 pub mod Each
 pub mod Front
 pub mod Chain
+pub mod Some
+pub mod Order

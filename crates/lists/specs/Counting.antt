@@ -1,5 +1,6 @@
 -- Numbers that pass a test. Assumes nothing.
 use Prim.Native.Nat.{ℕ, zero, suc, _+_}
+use mathlib.Core.List.{List, [], _∷_}
 use mathlib.Core.Bool.{Bool, true, false, _||_}
 use lib.Dec.{ltb}
 
@@ -12,6 +13,11 @@ choose false a b = b
 unfoldable pub some-below : (ℕ → Bool) → ℕ → Bool
 some-below p zero = false
 some-below p (suc n) = some-below p n || p n
+
+-- some number of a list passes
+unfoldable pub some-of : (ℕ → Bool) → List ℕ → Bool
+some-of p [] = false
+some-of p (n ∷ ns) = p n || some-of p ns
 
 -- how many numbers below n pass
 unfoldable pub count : (ℕ → Bool) → ℕ → ℕ

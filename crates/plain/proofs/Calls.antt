@@ -1,4 +1,4 @@
--- A search for a number that is too high, a call that passes its tests, and the buffer that the evaluators need. Assumes nothing.
+-- The buffer that the evaluators need. Assumes nothing.
 use Prim.Native.Nat.{ℕ, _+_, _<_, _≤_}
 use mathlib.Core.Path.{_≡_, refl}
 use mathlib.Core.List.{List}
@@ -17,27 +17,7 @@ use Rattle.layout.specs.Shape.{Shape}
 use Rattle.answers.proofs.Tests.{all-passed}
 use Rattle.layout.proofs.Firsts.{node-below}
 use Rattle.value.specs.Run.{run}
-use Rattle.plain.specs.Calls.{tooHigh, valuesTests}
 use Rattle.plain.specs.Saved.{Saved}
-
--- a search for a number that is too high
-module _ (F : ℕ) (fs : List ℕ) where
-  pub high-none : tooHigh F fs 0 ≡ false
-  unfolding tooHigh
-  high-none = refl
-
-  pub high-found : (n i : ℕ) → i < n → F ≤ getD fs i 0 → tooHigh F fs n ≡ true
-  unfolding tooHigh
-  high-found n i h e = some-has (λ i. leb F (getD fs i 0)) n i h (le-leb _ _ e)
-
-  pub high-more : (i : ℕ) → tooHigh F fs i ≡ false → getD fs i 0 < F → tooHigh F fs (i + 1) ≡ false
-  unfolding tooHigh
-  high-more i e h = rw (add-one, e) (lt-leb _ _ h)
-
--- a call that passes its tests has room for the values
-pub values-room : (fs : List ℕ) (room : ℕ) (c : Counts) → firstBroken (valuesTests fs room c) ≡ Sound → c .graphs ≤ room
-unfolding valuesTests
-values-room fs room c e = ltb-false room (c .graphs) (all-passed (valuesTests fs room c) e .1 .0)
 
 -- a buffer in which nothing is known
 pub nothing-known : {ws : List ℕ} {c : Counts} (fs x xs : List ℕ) → Shape ws c → 5120 ≡ length xs → ((i : ℕ) → i < 5120 → getD xs i 0 ≡ 2) → Saved (run ws c fs x) xs

@@ -2,3 +2,4 @@
 
 mod Laws
 pub mod Calls
+pub mod Lists

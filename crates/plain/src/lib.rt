@@ -5,7 +5,6 @@ ghost use Prim.Native.Nat.{ℕ, _≤_, _<_};
 ghost use lib.ListN.{length, getD};
 ghost use Rattle.lists.specs.Tables.{over};
 ghost use Rattle.answers.specs.Answers.{replyTold};
-ghost use Rattle.answers.specs.Tests.{firstBroken};
 ghost use Rattle.layout.specs.Layout.{size};
 ghost use Rattle.layout.specs.Shape.{Shape};
 ghost use Rattle.layout.specs.Tables.{Ready};
@@ -14,12 +13,11 @@ ghost use Rattle.testvectors.specs.Parts.{Wide};
 ghost use Rattle.value.specs.Settings.{faulty};
 ghost use Rattle.value.specs.Values.{value};
 ghost use Rattle.value.specs.Run.{run};
-ghost use Rattle.plain.specs.Calls.{tooHigh, valuesTests, valuesReply, valuesBuffer, goodTold, goodBuffer, faultTold, faultBuffer};
+ghost use Rattle.plain.specs.Calls.{goodTold, goodBuffer, faultTold, faultBuffer};
 ghost use Rattle.plain.specs.Saved.{Saved, FoundNode, FoundGraph};
 use answers::Answer;
 use answers::Counts;
 use answers::Reply;
-use answers::Rule;
 use answers::Verdict;
 
 // The value of local node k of graph g.
@@ -105,42 +103,19 @@ pub fn work_out(card: &[u32], c: Counts, vector: &[u32], faults: &[u32], values:
     }
 }
 
-// Whether some number of a list is not that of one of so many faults.
-fn too_high(count: usize, faults: &[u32]) -> bool
-    ensures { λ r. ⌜ r ≡ tooHigh count (now (faults .entry)) (length (now (faults .entry))) ⌝ }
-{
-    let mut i = 0;
-    while i < faults.len() {
-        if count <= lists::get(faults, i) as usize {
-            return true;
-        }
-        i += 1;
-    }
-    false
-}
-
-// The tests of a call for values after the form of its vector, for a buffer of `room` words: the numbers of its faults, and its room.
-pub fn test_values(c: Counts, faults: &[u32], room: usize) -> Verdict
-    ensures { λ r. ⌜ r ≡ firstBroken (valuesTests (now (faults .entry)) room c) ⌝ }
-{
-    if too_high(c.faults, faults) {
-        return Verdict::Broken(Rule::NumberTooHigh, 0);
-    }
-    if room < c.graphs {
-        return Verdict::Broken(Rule::BufferTooShort, 0);
-    }
-    Verdict::Sound
-}
-
-// The values of a card's graphs under a vector, with the faults of a list in, go into the buffer.
-fn values_with(card: &[u32], vector: &[u32], faults: &[u32], values: &mut [u32]) -> Reply
-    ensures { λ r. ⌜ (replyTold r ≡ replyTold (valuesReply (now (card .entry)) (now (vector .entry)) (now (faults .entry)) (now (values .entry))))
-        × (now (values .exit) ≡ valuesBuffer (now (card .entry)) (now (vector .entry)) (now (faults .entry)) (now (values .entry))) ⌝ }
+// Values with the faults of a list in, all holding together: one word 0 or 1 for each graph.
+pub fn fault_values(card: &[u32], vector: &[u32], faults: &[u32], values: &mut [u32]) -> Reply
+    ensures { λ r. ⌜ (replyTold r ≡ faultTold (now (card .entry)) (now (vector .entry)) (now (faults .entry)) (now (values .entry)))
+        × (now (values .exit) ≡ faultBuffer (now (card .entry)) (now (vector .entry)) (now (faults .entry)) (now (values .entry))) ⌝ }
 {
     match opening::open_vector(card, vector) {
         Answer::Refused(rule, position) => Reply::Refused(rule, position),
         Answer::Accepted(c) => {
-            if let Verdict::Broken(rule, position) = test_values(c, faults, values.len()) {
+            if let Verdict::Broken(rule, position) = faultlist::test_faults(
+                c,
+                faults,
+                values.len(),
+            ) {
                 return Reply::Refused(rule, position);
             }
             work_out(card, c, vector, faults, values);
@@ -149,20 +124,11 @@ fn values_with(card: &[u32], vector: &[u32], faults: &[u32], values: &mut [u32])
     }
 }
 
-// Good values: one word 0 or 1 for each graph.
+// Good values: those of the empty list.
 pub fn good_values(card: &[u32], vector: &[u32], values: &mut [u32]) -> Reply
     ensures { λ r. ⌜ (replyTold r ≡ goodTold (now (card .entry)) (now (vector .entry)) (now (values .entry)))
         × (now (values .exit) ≡ goodBuffer (now (card .entry)) (now (vector .entry)) (now (values .entry))) ⌝ }
 {
     let none = [0u32; 1];
-    values_with(card, vector, &none[..0], values)
-}
-
-// Values with one fault in.
-pub fn fault_values(card: &[u32], vector: &[u32], fault: u32, values: &mut [u32]) -> Reply
-    ensures { λ r. ⌜ (replyTold r ≡ faultTold (now (card .entry)) (now (vector .entry)) fault (now (values .entry)))
-        × (now (values .exit) ≡ faultBuffer (now (card .entry)) (now (vector .entry)) fault (now (values .entry))) ⌝ }
-{
-    let one = [fault];
-    values_with(card, vector, &one, values)
+    fault_values(card, vector, &none[..0], values)
 }

@@ -11,7 +11,7 @@ use borrow.Author.Tests.{eq-eqb, ne-eqb}
 use Rattle.lists.specs.Counting.{choose}
 use Rattle.lists.proofs.Tests.{choose-bit}
 use Rattle.lists.specs.Each.{Each}
-use Rattle.value.specs.Settings.{Keeps, good, faulty}
+use Rattle.value.specs.Settings.{Keeps, good, stuck, faulty}
 
 -- they give bits
 pub good-keeps : Keeps good
@@ -22,10 +22,14 @@ unfolding faulty
 faulty-keeps [] p v h = h
 faulty-keeps (f ∷ fs) p v h = choose-bit (eqb (f / 2) p) (f % 2) (faulty fs p v) (omega arith) (faulty-keeps fs p v h)
 
--- no fault, and the first of a list of faults: it holds its place, and leaves the others to the rest
+-- no fault, one fault alone, and the first of a list of faults: it holds its place, and leaves the others to the rest
 pub faulty-none : faulty [] ≡ good
 unfolding faulty
 faulty-none = refl
+
+pub faulty-one : (f : ℕ) → faulty (f ∷ []) ≡ stuck f good
+unfolding faulty
+faulty-one f = refl
 
 pub faulty-here : (f : ℕ) (fs : List ℕ) (p v : ℕ) → f / 2 ≡ p → faulty (f ∷ fs) p v ≡ f % 2
 unfolding faulty

@@ -1,0 +1,69 @@
+-- The loop over a list of faults, its tests one after another, and what a list that passes them has. Assumes nothing.
+use Prim.Native.Nat.{ℕ, suc, _+_, _/_, _<_, _≤_}
+use mathlib.Core.Path.{_≡_, refl}
+use mathlib.Core.List.{List}
+use mathlib.Core.Bool.{true, false}
+use native.Mathlib.Numerals.{add-one}
+use lib.ListN.{length, getD, drop, drop-of-length-le}
+use lib.Seq.{drop-cons}
+use borrow.Author.Tests.{lt-ltb, le-ltb, ltb-false}
+use Rattle.answers.specs.declared.Counts.{Counts}
+use Rattle.answers.specs.declared.Rule.the-variants.{NumberTooHigh, FaultListForm, BufferTooShort}
+use Rattle.answers.specs.declared.Verdict.the-variants.{Sound, Broken}
+use Rattle.answers.specs.Tests.{firstBroken}
+use Rattle.answers.proofs.Tests.{all-passed}
+use Rattle.faultlist.specs.Faults.{tooHigh, atPlace, placeTwice, faultTests}
+
+-- a loop over a list: the numbers from i on
+module _ (fs : List ℕ) where
+  pub twice-over : (i : ℕ) → length fs ≤ i → placeTwice (drop i fs) ≡ false
+  unfolding placeTwice
+  twice-over i h = rw (drop-of-length-le fs h)
+
+  pub twice-hit : (i : ℕ) → i < length fs → atPlace (getD fs i 0 / 2) (drop (i + 1) fs) ≡ true → placeTwice (drop i fs) ≡ true
+  unfolding placeTwice
+  twice-hit i h e = rw (drop-cons fs i 0 h, rw add-one at e)
+
+  pub twice-next : (i : ℕ) → i < length fs → atPlace (getD fs i 0 / 2) (drop (i + 1) fs) ≡ false → placeTwice (drop i fs) ≡ placeTwice (drop (i + 1) fs)
+  unfolding placeTwice
+  twice-next i h e = rw (add-one, drop-cons fs i 0 h, rw add-one at e)
+
+-- the tests one after another, each where those before it pass
+module _ (extra : ℕ) (fs : List ℕ) (room : ℕ) (c : Counts) where
+  pub high-told : tooHigh (c .faults) fs ≡ true → Broken NumberTooHigh 0 ≡ firstBroken (faultTests extra fs room c)
+  unfolding faultTests
+  high-told e = rw e
+
+  module _ (low : tooHigh (c .faults) fs ≡ false) where
+    pub odd-told : 0 < extra → Broken FaultListForm 0 ≡ firstBroken (faultTests extra fs room c)
+    unfolding faultTests
+    odd-told h = rw (low, lt-ltb 0 extra h)
+
+    module _ (even : extra ≤ 0) where
+      pub many-told : 8 < length fs → Broken FaultListForm 0 ≡ firstBroken (faultTests extra fs room c)
+      unfolding faultTests
+      many-told h = rw (low, le-ltb 0 extra even, lt-ltb 8 (length fs) h)
+
+      module _ (few : length fs ≤ 8) where
+        pub twice-told : placeTwice fs ≡ true → Broken FaultListForm 0 ≡ firstBroken (faultTests extra fs room c)
+        unfolding faultTests
+        twice-told e = rw (low, le-ltb 0 extra even, le-ltb 8 (length fs) few, e)
+
+        module _ (apart : placeTwice fs ≡ false) where
+          pub short-told : room < c .graphs → Broken BufferTooShort 0 ≡ firstBroken (faultTests extra fs room c)
+          unfolding faultTests
+          short-told h = rw (low, le-ltb 0 extra even, le-ltb 8 (length fs) few, apart, lt-ltb room (c .graphs) h)
+
+          pub none-told : c .graphs ≤ room → Sound ≡ firstBroken (faultTests extra fs room c)
+          unfolding faultTests
+          none-told h = rw (low, le-ltb 0 extra even, le-ltb 8 (length fs) few, apart, le-ltb room (c .graphs) h)
+
+  -- a call that passes them has no two faults of one place, and room for the values
+  module _ (e : firstBroken (faultTests extra fs room c) ≡ Sound) where
+    pub faults-apart : placeTwice fs ≡ false
+    unfolding faultTests
+    faults-apart = all-passed (faultTests extra fs room c) e .1 .1 .1 .0
+
+    pub values-room : c .graphs ≤ room
+    unfolding faultTests
+    values-room = ltb-false room (c .graphs) (all-passed (faultTests extra fs room c) e .1 .1 .1 .1 .0)

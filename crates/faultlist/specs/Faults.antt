@@ -1,0 +1,38 @@
+-- The list of faults of a call on the plain path: document 02, 'Several faults at once'. Assumes nothing.
+use Prim.Native.Nat.{ℕ, _/_}
+use mathlib.Core.List.{List, [], _∷_}
+use mathlib.Core.Bool.{Bool, false, _||_}
+use lib.ListN.{length}
+use lib.Dec.{ltb, leb, eqb}
+use Rattle.lists.specs.Counting.{some-of}
+use Rattle.answers.specs.declared.Counts.{Counts}
+use Rattle.answers.specs.declared.Rule.the-variants.{NumberTooHigh, FaultListForm, BufferTooShort}
+use Rattle.answers.specs.Tests.{Test, test}
+
+-- some number of the list is F or more
+unfoldable pub tooHigh : ℕ → List ℕ → Bool
+unfolding some-of
+tooHigh F fs = some-of (leb F) fs
+
+-- some number of the list is a fault of place p: fault f is one of place f / 2 (`value`, specs/Settings.antt)
+unfoldable pub atPlace : ℕ → List ℕ → Bool
+unfolding some-of
+atPlace p fs = some-of (λ f. eqb (f / 2) p) fs
+
+-- two numbers of the list are faults of one place: a number repeated, or both faults of one node or graph
+unfoldable pub placeTwice : List ℕ → Bool
+unfolding atPlace
+placeTwice [] = false
+placeTwice (f ∷ fs) = atPlace (f / 2) fs || placeTwice fs
+
+-- THE TESTS of a call with the faults fs, with `extra` bytes after them that are no number, and with a buffer of `room` words: each fault's number, then
+-- the list, which has at most 8 numbers, then the buffer's length
+unfoldable pub faultTests : ℕ → List ℕ → ℕ → Counts → List Test
+unfolding tooHigh placeTwice
+faultTests extra fs room c =
+    test (tooHigh (c .faults) fs) NumberTooHigh 0
+    ∷ test (ltb 0 extra) FaultListForm 0
+    ∷ test (ltb 8 (length fs)) FaultListForm 0
+    ∷ test (placeTwice fs) FaultListForm 0
+    ∷ test (ltb room (c .graphs)) BufferTooShort 0
+    ∷ []
