@@ -3,7 +3,8 @@
  *   LD_PRELOAD=faulty.so FAULTY="NAME CALL AT TIMES ERROR MOST" FAULTY_SEEN=FILE command
  *
  * CALL is read or write. Calls number AT to AT + TIMES - 1 fail with the error number ERROR; where one does, FILE is made. No call
- * moves more than MOST bytes. Standard error is left alone, so that what is said there can be tested.
+ * moves more than MOST bytes. Standard error is left alone, so that what is said there can be tested. With FAULTY_WAIT a call
+ * fails after so many microseconds, by which time the process at a pipe's other end is done.
  */
 #define _GNU_SOURCE
 #include <dlfcn.h>
@@ -39,12 +40,14 @@ static int planned(const char *call, int fd)
 /* Whether this call is one of those that fail. */
 static int fails(void)
 {
-    const char *seen = getenv("FAULTY_SEEN");
+    const char *seen = getenv("FAULTY_SEEN"), *wait = getenv("FAULTY_WAIT");
     calls++;
     if (calls < plan.at || calls - plan.at >= plan.times)
         return 0;
     if (seen)
         close(open(seen, O_CREAT | O_WRONLY, 0666));
+    if (wait)
+        usleep((useconds_t)atoi(wait));
     errno = (int)plan.error;
     return 1;
 }

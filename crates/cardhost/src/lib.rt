@@ -1,5 +1,5 @@
-// The calls for the fixture's host, in C: cards, vectors, lists of faults, wires and buffers are bytes, each word four of them, highest byte first, and the answer is one 64-bit
-// number.
+// The calls for the fixture's host, in C: cards, vectors, lists of faults, wires and buffers are bytes, each word four of them, highest byte first, and
+// the answer is one 64-bit number.
 ghost use mathlib.Core.Path.{_≡_};
 ghost use Rattle.hostcheck.specs.Calls.{checkAnswer, checkBytes};
 ghost use Rattle.hostvalues.specs.Calls.{goodAnswer, goodBytes, faultAnswer, faultBytes};

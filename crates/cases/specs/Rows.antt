@@ -174,7 +174,11 @@ FaultedHolds r =
 
 -- a refusal holds by the call, which leaves its buffer as it was
 abbrev pub RefusedHolds : Refused → Type 0
-RefusedHolds r = call (faultTold (r .card) (r .under) (r .faults)) (faultBuffer (r .card) (r .under) (r .faults)) (r .room) ≡ (refusal (r .number) 0, lent (r .room))
+RefusedHolds r =
+    let ws = r .card in
+    let x = r .under in
+    let n = r .room in
+    call (faultTold ws x (r .faults)) (faultBuffer ws x (r .faults)) n ≡ (refusal (r .number) 0, lent n)
 
 -- WHAT A ROW SAYS
 abbrev pub Holds : Row → Type 0

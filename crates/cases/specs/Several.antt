@@ -21,7 +21,7 @@ wide = 0x00000000 ∷ 0x00000000 ∷ 0x00000000 ∷ 0x00000000 ∷ 0x00000000 �
 abbrev pub countsWide : Counts
 countsWide = record { inputs = 8; graphs = 9; nodes = 1; observable = 1; faults = 20 }
 
--- under one vector: the values with these faults in, and the number of a refusal, with a buffer of three words
+-- under one vector: the values with these faults in; and the number of a refusal, with a buffer of so many words
 abbrev pub with-in : List ℕ → Counts → ℕ → List ℕ → List ℕ → Row
 with-in card counts x faults values = faulted (record { card = card; counts = counts; under = x ∷ []; faults = faults; values = values })
 

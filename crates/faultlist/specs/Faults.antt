@@ -25,8 +25,8 @@ unfolding atPlace
 placeTwice [] = false
 placeTwice (f ∷ fs) = atPlace (f / 2) fs || placeTwice fs
 
--- THE TESTS of a call with the faults fs, with `extra` bytes after them that are no number, and with a buffer of `room` words: each fault's number, then
--- the list, which has at most 8 numbers, then the buffer's length
+-- THE TESTS of a call with the faults fs, with `extra` bytes after them that are no number, and with a buffer of `room` words: each fault's number;
+-- then the list, which is whole numbers, at most 8 of them, no two of one place; then the buffer's length
 unfoldable pub faultTests : ℕ → List ℕ → ℕ → Counts → List Test
 unfolding tooHigh placeTwice
 faultTests extra fs room c =

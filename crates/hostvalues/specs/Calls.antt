@@ -1,5 +1,5 @@
--- The values of a card's graphs in bytes: document 01, 'Calls', and document 02, 'Several faults at once'. By the definitions of the calls by words, over the
--- words that the bytes hold. Assumes nothing.
+-- The values of a card's graphs in bytes: document 01, 'Calls', and document 02, 'Several faults at once'. By the definitions of the calls by words,
+-- over the words that the bytes hold. Assumes nothing.
 use Prim.Native.Nat.{ℕ, _%_}
 use mathlib.Core.List.{List}
 use lib.ListN.{length}

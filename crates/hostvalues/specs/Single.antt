@@ -1,5 +1,5 @@
--- Values with one fault in bytes, as the call that took one number had them. No contract of a call cites these: the laws say that a list of one gives what this
--- call gave. Assumes nothing.
+-- Values with one fault in bytes, as the call that took one number had them. No contract of a call cites these: the laws say that a list of one gives
+-- what this call gave. Assumes nothing.
 use Prim.Native.Nat.{ℕ}
 use mathlib.Core.List.{List}
 use Rattle.value.specs.Settings.{good, stuck}

@@ -1,5 +1,5 @@
--- LISTS OF FAULTS, said of the whole call, refused or not: the empty list gives the good values, a list of one what the call with one number gave, and two orders
--- of a list give the same. Assumes nothing.
+-- LISTS OF FAULTS, said of the whole call, refused or not: the empty list gives the good values, a list of one what the call with one number gave, and
+-- two orders of a list give the same. Assumes nothing.
 use Prim.Native.Nat.{ℕ}
 use mathlib.Core.Path.{_≡_, refl, ap, _∙_}
 use mathlib.Core.List.{List, [], _∷_, Perm}

@@ -1,5 +1,5 @@
--- Values with one fault, as the call that took one number had them: its tests and its reply and buffer. No contract of a call cites these: the laws say that a
--- list of one gives what this call gave. Assumes nothing.
+-- Values with one fault, as the call that took one number had them: its tests, its reply and its buffer. No contract of a call cites these: the laws
+-- say that a list of one gives what this call gave. Assumes nothing.
 use Prim.Native.Nat.{ℕ}
 use mathlib.Core.List.{List, [], _∷_}
 use lib.ListN.{length}
