@@ -1,22 +1,22 @@
 -- TWO ORDERS OF A LIST OF FAULTS: they pass the same tests, and where no two faults are of one place, they are one setting. Assumes nothing.
 use Prim.Native.Nat.{ℕ, _/_}
 use mathlib.Core.Path.{_≡_, refl, sym, ap₂, _∙_, fun-ext}
-use mathlib.Core.List.{List, _∷_, Perm, List·Permᴰ, Permᴰ·symm}
+use mathlib.Core.List.{List, Perm, List·Permᴰ, Permᴰ·symm}
 use mathlib.Core.Logic.{∥∥₁-elim}
 use mathlib.Core.Bool.{Bool, true, false, _||_, Bool-set}
 use native.Mathlib.Nat.{ℕ-set}
 use lib.Dec.{leb, eqb}
-use Rattle.lists.proofs.Tests.{eqb-sym, or-false}
+use Rattle.lists.proofs.Tests.{eqb-sym}
 use Rattle.lists.proofs.Order.{order-same, each-order, length-order, some-order}
 use Rattle.answers.specs.declared.Counts.{Counts}
 use Rattle.answers.specs.Tests.{firstBroken}
-use Rattle.value.specs.Settings.{Setting, faulty}
+use Rattle.value.specs.Settings.{faulty}
 use Rattle.faultlist.specs.Faults.{tooHigh, atPlace, placeTwice, faultTests}
 use Rattle.faultlist.specs.Together.{Together}
 use Rattle.faultlist.proofs.Together.{faulty-together, together-one}
 
 -- whether a number is too high, and whether one is of a place
-pub high-order : (F : ℕ) {fs gs : List ℕ} → Perm fs gs → tooHigh F fs ≡ tooHigh F gs
+high-order : (F : ℕ) {fs gs : List ℕ} → Perm fs gs → tooHigh F fs ≡ tooHigh F gs
 unfolding tooHigh
 high-order F = some-order (leb F)
 

@@ -1,6 +1,6 @@
 -- The loop over a list of faults, its tests one after another, and what a list that passes them has. Assumes nothing.
-use Prim.Native.Nat.{ℕ, suc, _+_, _/_, _<_, _≤_}
-use mathlib.Core.Path.{_≡_, refl}
+use Prim.Native.Nat.{ℕ, _+_, _/_, _<_, _≤_}
+use mathlib.Core.Path.{_≡_}
 use mathlib.Core.List.{List}
 use mathlib.Core.Bool.{true, false}
 use native.Mathlib.Numerals.{add-one}

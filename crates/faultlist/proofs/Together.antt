@@ -1,6 +1,6 @@
 -- Faults that hold together: the setting of a list with no two faults of one place is that one, and there is no other. Assumes nothing.
 use Prim.Native.Nat.{ℕ, _+_, _*_, _/_, _%_, _<_}
-use mathlib.Core.Path.{_≡_, refl, sym, ap, _∙_}
+use mathlib.Core.Path.{_≡_, refl, sym, ap, _∙_, fun-ext}
 use mathlib.Core.List.{List, [], _∷_}
 use mathlib.Core.Bool.{false}
 use mathlib.Core.Logic.{_⊎_, inl, inr}
@@ -52,6 +52,9 @@ together-one fs {s} {t} a b p v = go fs (a .each) (b .each) (λ n. a .rest p v n
       | no n ↦ go gs ds es (λ u. k (n, u))
     ]
 
+pub together-is : (fs : List ℕ) → placeTwice fs ≡ false → {s : Setting} → Together fs s → s ≡ faulty fs
+together-is fs e t = fun-ext (λ p. fun-ext (λ v. together-one fs t (faulty-together fs e) p v))
+
 -- WHAT THIS IS AT GRAPHS AND NODES, whatever the other faults are: a graph that a fault holds has the value that it is held at, and so its nodes' faults change
 -- nothing that a reader sees; a node that a fault forces takes the exit that it is forced to
 module _ (fs : List ℕ) (e : placeTwice fs ≡ false) (ws : List ℕ) where
@@ -64,5 +67,5 @@ module _ (fs : List ℕ) (e : placeTwice fs ≡ false) (ws : List ℕ) where
   nodes-forced v = each-then (λ f h g k q. rw (← q) (ap (exits ws g k) (h _))) fs (holds-each fs e)
 
 -- two faults of one place are one fault, or the place's two
-pub one-place : (f g : ℕ) → f / 2 ≡ g / 2 → (f ≡ g) ⊎ (f + g ≡ 4 * (f / 2) + 1)
-one-place f g e = elim (ℕ-discrete f g) [ yes q ↦ inl q | no n ↦ inr (omega arith) ]
+pub same-place : (f g : ℕ) → f / 2 ≡ g / 2 → (f ≡ g) ⊎ (f + g ≡ 4 * (f / 2) + 1)
+same-place f g e = elim (ℕ-discrete f g) [ yes q ↦ inl q | no n ↦ inr (omega arith) ]

@@ -1,22 +1,32 @@
--- The steps of the evaluators, said of the definitions: what is saved, what is read, and where a walk goes on. Assumes nothing.
+-- The steps of the evaluators, said of the definitions: a buffer in which nothing is known, what is saved, what is read, and where a walk goes on. Assumes nothing.
 use Prim.Native.Nat.{ℕ, _+_, _*_, _<_, _≤_}
 use mathlib.Core.Path.{_≡_, sym, ap, _∙_}
 use mathlib.Core.List.{List}
 use native.Mathlib.Omega.{arith}
 use native.Mathlib.Decide.{ℕ-discrete}
-use lib.ListN.{getD, set, length-set}
+use lib.ListN.{length, getD, set, length-set}
 use lib.Seq.{getD-set-same, getD-set-other}
 use Rattle.word32.specs.Fields.{readGraph}
 use Rattle.layout.specs.Layout.{first, size, decision}
 use Rattle.layout.proofs.Firsts.{one-place, node-below}
+use Rattle.answers.specs.declared.Counts.{Counts}
+use Rattle.layout.specs.Shape.{Shape}
 use Rattle.layout.specs.Tables.{Decided, Ready}
 use Rattle.layout.proofs.Places.{walkable, place-is, read-is, decision-is}
 use Rattle.testvectors.specs.Vectors.{bit}
 use Rattle.value.specs.Settings.{faulty}
 use Rattle.value.proofs.Settings.{faulty-keeps}
 use Rattle.value.proofs.Values.{value-input, value-output, value-bit}
-use Rattle.value.specs.Run.{Run, graphOf, nodeOf}
+use Rattle.value.specs.Run.{Run, run, graphOf, nodeOf}
 use Rattle.plain.specs.Saved.{Saved, FoundNode, FoundGraph}
+
+-- a buffer in which nothing is known
+pub nothing-known : {ws : List ℕ} {c : Counts} (fs x xs : List ℕ) → Shape ws c → 5120 ≡ length xs → ((i : ℕ) → i < 5120 → getD xs i 0 ≡ 2) → Saved (run ws c fs x) xs
+nothing-known {ws} {c} fs x xs s l e = record {
+  long = omega (arith, s .few-nodes, s .few-graphs);
+  nodes = λ g k h i b. absurd (omega (arith, e (first ws g + k) (omega (arith, node-below s g k h i, s .few-nodes))));
+  graphs = λ g h b. absurd (omega (arith, e (c .nodes + g) (omega (arith, s .few-nodes, s .few-graphs))));
+}
 
 module _ (t : Run) {firsts : List ℕ} (y : Ready (t .card) (t .counts) firsts) where
   -- a value saved at its place

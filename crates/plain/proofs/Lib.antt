@@ -1,5 +1,4 @@
--- What the proofs of the evaluators and of the calls cite.
-
+-- The steps of the evaluators; what the calls give for lists of faults, and what a call that is done has written.
 mod Laws
-pub mod Calls
 pub mod Lists
+pub mod Done

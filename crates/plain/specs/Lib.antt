@@ -1,3 +1,4 @@
 pub mod Calls
 pub mod Single
+pub mod Done
 pub mod Saved

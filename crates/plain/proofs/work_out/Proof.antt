@@ -13,7 +13,7 @@ use Rattle.value.specs.Settings.{faulty}
 use Rattle.value.specs.Values.{value}
 use Rattle.value.specs.Run.{run}
 use Rattle.plain.specs.Saved.{Saved}
-use Rattle.plain.proofs.Calls.{nothing-known}
+use Rattle.plain.proofs.Laws.{nothing-known}
 use borrow.Author.Needs.{needs}
 use Rattle.plain.proofs.work_out.Statement.{statement}
 use Rattle.plain.proofs.work_out.Tie as tie
