@@ -1,5 +1,4 @@
 -- `hostvalues::good_values` meets its contract. Assumes nothing.
-use mathlib.Core.Path.{_∙_}
 use borrow.Author.Needs.{needs}
 use Rattle.hostvalues.proofs.Lists.{none-good}
 use Rattle.hostvalues.proofs.good_values.Statement.{statement}
@@ -11,7 +10,7 @@ returns c =
     let a = at-call .before .before .before .before .before .before .args in
     let e = at-call .fault-values .ensures in
     let n = none-good (a .card .now) (a .vector .now) (a .values .now) in
-    (e .0 ∙ n .0, e .1 ∙ n .1)
+    (rw (n .0) at (e .0), rw (n .1) at (e .1))
 
 pub good-values-spec : {M : Type 1} → statement M
 good-values-spec = tie.close (tie.spec (λ c. search needs) (λ c. search needs) (λ c κs. search needs) (λ c. search needs) returns)

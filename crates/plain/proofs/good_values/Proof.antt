@@ -1,7 +1,5 @@
 -- `plain::good_values` meets its contract. Assumes nothing.
-use mathlib.Core.Path.{ap, _∙_}
 use borrow.Author.Needs.{needs}
-use Rattle.answers.specs.Answers.{replyTold}
 use Rattle.plain.proofs.Lists.{none-good}
 use Rattle.plain.proofs.good_values.Statement.{statement}
 use Rattle.plain.proofs.good_values.Tie as tie
@@ -12,7 +10,7 @@ returns c =
     let a = at-call .before .before .before .before .before .before .args in
     let e = at-call .fault-values .ensures in
     let n = none-good (a .card .now) (a .vector .now) (a .values .now) in
-    (e .0 ∙ ap replyTold (n .0), e .1 ∙ n .1)
+    (rw (n .0) at (e .0), rw (n .1) at (e .1))
 
 pub good-values-spec : {M : Type 1} → statement M
 good-values-spec = tie.close (tie.spec (λ c. search needs) (λ c. search needs) (λ c κs. search needs) (λ c. search needs) returns)
