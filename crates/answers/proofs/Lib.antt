@@ -2,3 +2,4 @@
 pub mod Answers
 pub mod Tests
 pub mod Calls
+pub mod Old

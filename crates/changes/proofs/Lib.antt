@@ -1,3 +1,4 @@
 -- What passed tests tell, and lists that grow.
 
 pub mod Laws
+pub mod Old

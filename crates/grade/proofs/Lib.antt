@@ -2,3 +2,4 @@
 pub mod Graded
 pub mod Tests
 pub mod Columns
+pub mod Old

@@ -1,2 +1,3 @@
 -- Where a broken test of a call stands.
 mod Laws
+pub mod Old

@@ -1,2 +1,3 @@
 -- The check's own test.
 mod Laws
+pub mod Old

@@ -4,3 +4,4 @@ mod Positions
 pub mod Lists
 pub mod Laws
 pub mod Written
+pub mod Lent

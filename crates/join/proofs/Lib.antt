@@ -2,3 +2,4 @@
 pub mod Laws
 pub mod Written
 pub mod Done
+pub mod Old

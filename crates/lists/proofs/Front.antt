@@ -6,7 +6,7 @@ use native.Mathlib.Omega.{arith}
 use native.Mathlib.Numerals.{add-one}
 use lib.ListN.{length, getD, set, take, drop, take-append-drop, length-append, length-drop, length-map, List·getD-map}
 use lib.Seq.{getD-drop, take-at, length-take-le, drop-append-add, drop-drop, ext-getD}
-use Rattle.lists.specs.Tables.{grow, tab, front}
+use Rattle.lists.specs.Tables.{grow, tab, over, front}
 use Rattle.lists.proofs.Tables.{length-tab, tab-at, front-more}
 
 -- a loop that goes on filling it, from word n on
@@ -48,3 +48,7 @@ front-on xs ys d out n e q =
 
 pub length-front : (xs d : List ℕ) → length xs ≤ length d → length (front xs d) ≡ length d
 length-front xs d h = length-append xs (drop (length xs) d) ∙ rw (length-drop (length xs) d) (omega arith)
+
+-- a buffer filled by a rule has the rule's table at its front
+pub over-put : (f : ℕ → ℕ) (n : ℕ) (d : List ℕ) → over n f d ≡ front (tab f n) d
+over-put f n d = rw (length-tab f n)

@@ -2,3 +2,4 @@
 mod Laws
 pub mod Lists
 pub mod Done
+pub mod Old

@@ -2,3 +2,4 @@ pub mod Calls
 pub mod Single
 pub mod Done
 pub mod Saved
+pub mod Outcomes

@@ -1,3 +1,4 @@
 pub mod Vectors
 pub mod Parts
 pub mod Made
+pub mod Lent

@@ -1,0 +1,58 @@
+-- EVERY CALL, said once: over what is lent to it, and giving its reply and the words that its buffers get, be it made by words or in bytes. Assumes
+-- nothing.
+use Prim.Native.Nat.{ℕ}
+use mathlib.Core.List.{List, []}
+use Rattle.answers.specs.declared.Rule.{Rule}
+use Rattle.answers.specs.declared.Counts.{Counts}
+use Rattle.answers.specs.declared.Verdict.{Verdict}
+use Rattle.answers.specs.declared.Verdict.the-variants.{Sound, Broken}
+use Rattle.answers.specs.declared.Answer.{Answer}
+use Rattle.answers.specs.declared.Answer.the-variants as answer
+use Rattle.answers.specs.declared.Reply.{Reply}
+use Rattle.answers.specs.declared.Reply.the-variants as reply
+use Rattle.answers.specs.Tests.{Test, firstBroken}
+
+-- WHAT IS LENT: whole words, and so many bytes after them that make no word; by words there are none
+pub record Lent : Type 0 where
+  pub words : List ℕ
+  pub extra : ℕ
+
+abbrev pub lent : List ℕ → ℕ → Lent
+lent ws extra = record { words = ws; extra = extra }
+
+abbrev pub whole : List ℕ → Lent
+whole ws = lent ws 0
+
+-- WHAT A CALL COMES TO: its reply, the words that go to the front of its buffer, and those that go to the front of a second one
+pub record Outcome : Type 0 where
+  pub reply : Reply
+  pub words : List ℕ
+  pub more : List ℕ
+
+-- a refusal writes nothing
+abbrev pub refusedBy : Rule → ℕ → Outcome
+refusedBy r p = record { reply = reply.Refused r p; words = []; more = [] }
+
+-- what a call does with what was accepted: its own tests, in their order, and where none is broken its number and its words
+pub record Work : Type 0 where
+  pub tests : List Test
+  pub number : ℕ
+  pub words : List ℕ
+  pub more : List ℕ
+
+abbrev pub work : List Test → ℕ → List ℕ → Work
+work tests number words = record { tests = tests; number = number; words = words; more = [] }
+
+abbrev pub outcomeBy : Verdict → Work → Outcome
+outcomeBy Sound w = record { reply = reply.Done (w .number); words = w .words; more = w .more }
+outcomeBy (Broken r p) w = refusedBy r p
+
+-- what follows where something is accepted; a refusal ends the call
+unfoldable pub following : Answer → (Counts → Outcome) → Outcome
+following (answer.Accepted c) f = f c
+following (answer.Refused r p) f = refusedBy r p
+
+-- THE OUTCOME of a call, from how it opens and its work on what was accepted
+unfoldable pub outcome : Answer → (Counts → Work) → Outcome
+unfolding following
+outcome a f = following a (λ c. outcomeBy (firstBroken (f c .tests)) (f c))
