@@ -1,5 +1,6 @@
--- What document 01's numbers and sound verdicts tell, and how a call goes.
+-- What sound verdicts tell, where refusals stand, how a call opens and what it comes to, and how a worker ends.
 pub mod Answers
 pub mod Tests
+pub mod Positions
 pub mod Calls
-pub mod Old
+pub mod Ends

@@ -1,4 +1,6 @@
+pub mod Limits
 pub mod Answers
 pub mod Tests
 pub mod Calls
-pub mod Outcomes
+pub mod Ends
+pub mod Told

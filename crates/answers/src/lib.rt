@@ -3,6 +3,21 @@
 ghost use mathlib.Core.Path.{_≡_};
 ghost use Rattle.answers.specs.Answers.{numberOf};
 
+// The limits of a card and of a list of vectors; specs/Limits.antt has the same.
+pub const MAX_GRAPHS: usize = 1024;
+
+pub const MAX_NODES: usize = 4096;
+
+pub const MAX_WORDS: usize = MAX_GRAPHS + 2 * MAX_NODES;
+
+pub const MAX_SITES: usize = MAX_NODES + MAX_GRAPHS;
+
+pub const MAX_FAULTS: usize = 2 * MAX_SITES;
+
+pub const MAX_VECTORS: usize = 65535;
+
+pub const MAX_WIDTH: usize = MAX_GRAPHS / 16;
+
 // The rules of document 01's table of refusals, and those of the later requests. `rule_number` gives each its number.
 pub enum Rule {
     CardTooLong,
@@ -44,6 +59,14 @@ pub enum Answer {
 pub enum Reply {
     Done(usize),
     Refused(Rule, usize),
+}
+
+// How a worker ends, which does the work of a call for words and for bytes: the reply, and how many words it wrote to the front of its buffer, and of a
+// second one.
+pub struct Ended {
+    pub reply: Reply,
+    pub words: usize,
+    pub more: usize,
 }
 
 // What a part of the check finds.

@@ -24,7 +24,7 @@ begun {xs} {us} {ys} {ts} {c} {r} h l e z v m = record {
     marks-long = rw (e, length-over (always 0xC0000000) xs (c .faults) h) h;
     tallies-long = rw (z, length-over (always 0) us (c .faults) l) l;
     number = m ∙ sym (count-none (λ f. k f && ltb 0 (getD ts f 0)) (c .faults) (λ f i. and-none (k f) (rw (none f i))));
-    small = record { word = λ f o i. rw (none f i, v) (omega arith) };
+    tallies-low = record { word = λ f o i. rw (none f i, v) (omega arith) };
   };
   marks = e;
   tallies = z;

@@ -1,53 +1,45 @@
 -- A block of vectors taken in by the running result. No contract of a public call cites these. Assumes nothing.
-use Prim.Native.Nat.{ℕ, zero, suc, _+_, _*_, _<_, _≤_}
+use Prim.Native.Nat.{ℕ, _+_, _*_, _<_, _≤_}
 use mathlib.Core.Path.{_≡_}
 use mathlib.Core.List.{List}
 use mathlib.Core.Bool.{Bool}
 use lib.ListN.{length, getD}
-use Rattle.lists.specs.Counting.{count}
 use Rattle.lists.specs.Tables.{over, always}
 use Rattle.answers.specs.declared.Counts.{Counts}
+use Rattle.answers.specs.Limits.{maxVectors}
 use Rattle.cardtables.specs.Stems.{inGrade}
 use Rattle.testvectors.specs.Vectors.{width, vectors}
-use Rattle.detect.specs.Detects.{detects}
+use Rattle.detect.specs.Relation.{tallyOf, markOf}
 use Rattle.detect.specs.Grading.{detectedBy}
 use Rattle.running.specs.declared.Running.{Running}
-use Rattle.running.specs.Running.{nextMark, nextTally, Counted}
+use Rattle.running.specs.Running.{Counted}
 
--- one vector taken in: marks xs become ys and tallies us become ts, each fault's by whether the vector catches it; words beyond stay
-pub record Updated (ws : List ℕ) (c : Counts) (x : List ℕ) (t : ℕ) (xs us ys ts : List ℕ) : Type 0 where
-  pub mark : (f : ℕ) → f < c .faults → getD ys f 0 ≡ nextMark t (detects ws c x f) (getD us f 0) (getD xs f 0)
-  pub tally : (f : ℕ) → f < c .faults → getD ts f 0 ≡ nextTally (detects ws c x f) (getD us f 0)
-  pub rest : (f : ℕ) → c .faults ≤ f → (getD ys f 0 ≡ getD xs f 0) × (getD ts f 0 ≡ getD us f 0)
+-- the marks ys and the tallies ts of the first F faults are those of the first t vectors, by any relation; words beyond are as in xs and us
+pub record GradedBy (catches : ℕ → ℕ → Bool) (F t : ℕ) (xs us ys ts : List ℕ) : Type 0 where
+  pub mark : (f : ℕ) → f < F → getD ys f 0 ≡ markOf catches t f
+  pub tally : (f : ℕ) → f < F → getD ts f 0 ≡ tallyOf catches t f
+  pub rest : (f : ℕ) → F ≤ f → (getD ys f 0 ≡ getD xs f 0) × (getD ts f 0 ≡ getD us f 0)
 
--- the mark of a fault after n vectors, the first of which is vector t; p i tells whether vector t + i catches it; before, its tally was u and its mark m
-unfoldable pub markAfter : ℕ → (ℕ → Bool) → ℕ → ℕ → ℕ → ℕ
-unfolding count
-markAfter t p u m zero = m
-markAfter t p u m (suc n) = nextMark (t + n) (p n) (u + count p n) (markAfter t p u m n)
-
--- the first n vectors of a block taken in, the first of which is vector t; words beyond the faults stay
-pub record UpdatedAll (ws : List ℕ) (c : Counts) (vs : List ℕ) (t n : ℕ) (xs us ys ts : List ℕ) : Type 0 where
-  pub mark : (f : ℕ) → f < c .faults → getD ys f 0 ≡ markAfter t (detectedBy ws c vs f) (getD us f 0) (getD xs f 0) n
-  pub tally : (f : ℕ) → f < c .faults → getD ts f 0 ≡ getD us f 0 + count (detectedBy ws c vs f) n
-  pub rest : (f : ℕ) → c .faults ≤ f → (getD ys f 0 ≡ getD xs f 0) × (getD ts f 0 ≡ getD us f 0)
+abbrev pub blockVectors : ℕ
+blockVectors = 64
 
 -- where the block that starts at vector t of n ends: it has some vectors, and 64 at most
-pub record Ends (t n e : ℕ) : Type 0 where
+pub record BlockEnd (t n e : ℕ) : Type 0 where
   pub some : t < e
   pub inside : e ≤ n
-  pub few : e ≤ t + 64
+  pub few : e ≤ t + blockVectors
 
 -- a block of whole vectors, the first of which is vector t
 pub record Block (c : Counts) (vs : List ℕ) (t : ℕ) : Type 0 where
   pub some-input : 0 < c .inputs
   pub whole : length vs ≡ vectors (c .inputs) vs * width (c .inputs)
-  pub few : t + vectors (c .inputs) vs ≤ 65535
+  pub few : t + vectors (c .inputs) vs ≤ maxVectors
 
--- the whole block taken in by the result r, which leaves the result q
-pub record TookIn (ws : List ℕ) (c : Counts) (vs xs us ys ts : List ℕ) (r q : Running) : Type 0 where
-  pub vector : q .vector ≡ r .vector + vectors (c .inputs) vs
-  pub updated : UpdatedAll ws c vs (r .vector) (vectors (c .inputs) vs) xs us ys ts
+-- the first n vectors of a block taken in by the result r, which leaves q: by any relation in which they come next, what was graded is graded with them
+pub record TookIn (ws : List ℕ) (c : Counts) (vs : List ℕ) (n : ℕ) (xs us ys ts : List ℕ) (r q : Running) : Type 0 where
+  pub vector : q .vector ≡ r .vector + n
+  pub graded : (catches : ℕ → ℕ → Bool) → ((f i : ℕ) → i < n → catches f (r .vector + i) ≡ detectedBy ws c vs f i) → {ms os : List ℕ}
+      → GradedBy catches (c .faults) (r .vector) ms os xs us → GradedBy catches (c .faults) (q .vector) ms os ys ts
   pub counted : Counted (inGrade ws c) (c .faults) ys ts q
 
 -- before the first vector: no fault is marked, and every tally is 0, so that it is no matter which faults count

@@ -3,8 +3,9 @@ ghost use Prim.Native.Nat.{_≤_, _<_};
 ghost use lib.ListN.{length};
 ghost use Rattle.cardtables.specs.Stems.{inGrade};
 ghost use Rattle.cardtables.specs.Tables.{Tabled};
+ghost use Rattle.testvectors.specs.Vectors.{vectors as many};
 ghost use Rattle.running.specs.Running.{Counted};
-ghost use Rattle.block.specs.Block.{Ends, Block, TookIn, Begun};
+ghost use Rattle.block.specs.Block.{BlockEnd, Block, TookIn, Begun};
 use answers::Counts;
 use cardtables::Tables;
 use running::Running;
@@ -19,18 +20,21 @@ pub fn begin(c: Counts, marks: &mut [u32], tallies: &mut [u32]) -> Running
     Running::start()
 }
 
-// Where the block ends that starts at vector t of n: it has up to 64 vectors.
+// The most vectors of a block.
+pub const BLOCK: usize = 64;
+
+// Where the block ends that starts at vector t of n.
 pub fn block_end(t: usize, n: usize) -> usize
     requires { ⌜ t < n ⌝ }
-    ensures { λ r. ⌜ Ends t n r ⌝ }
+    ensures { λ r. ⌜ BlockEnd t n r ⌝ }
 {
-    if n - t < 64 {
+    if n - t < BLOCK {
         return n;
     }
-    t + 64
+    t + BLOCK
 }
 
-// Takes in a block of vectors given as words and hands the next result back. What it promises holds of any two buffers that the result counts.
+// Takes in a block of vectors given as words and hands the next result back.
 pub fn take_block(
     r: Running,
     card: &[u32],
@@ -42,11 +46,12 @@ pub fn take_block(
 ) -> Running
     requires { ⌜ Tabled (now card) c (now tables) × Block c (now vectors) (r .vector)
         × Counted (inGrade (now card) c) (c .faults) (now marks) (now tallies) r ⌝ }
-    ensures { λ q. ⌜ TookIn (now (card .entry)) c (now (vectors .entry)) (now (marks .entry)) (now (tallies .entry)) (now (marks .exit)) (now (tallies .exit)) r q ⌝ }
+    ensures { λ q. ⌜ TookIn (now (card .entry)) c (now (vectors .entry)) (many (c .inputs) (now (vectors .entry))) (now (marks .entry)) (now (tallies .entry))
+        (now (marks .exit)) (now (tallies .exit)) r q ⌝ }
 {
-    let mut values = layout::place_table();
+    let mut values = layout::site_table();
     let mut walk = critical::walk_room();
-    let mut caught = layout::place_table();
+    let mut caught = layout::site_table();
     let n = testvectors::count_vectors(c.inputs, vectors);
     let all = c.nodes + c.graphs;
     let words = &tables[..];

@@ -14,12 +14,12 @@ use Rattle.answers.specs.declared.Counts.{Counts}
 use Rattle.answers.specs.declared.Answer.{Answer}
 use Rattle.answers.specs.declared.Verdict.{Verdict}
 use Rattle.answers.specs.declared.Verdict.the-variants.{Sound}
-use Rattle.form.specs.Check.{counts, word, place, withGraph, graphVerdict, rest}
+use Rattle.form.specs.Check.{counts, word, cardLength, withGraph, graphVerdict, rest}
 use Rattle.form.proofs.Verdicts.{header-few}
 use Rattle.form.proofs.Checked.{few-observable, none-read, graph-step}
 use Rattle.layout.specs.Shape.{Shape}
 use Rattle.nodecheck.specs.Table.{Blank, NodesTold}
-use Rattle.cardcheck.specs.Graph.{Few, AtPlace, Opened, OpeningTold, NodesRead, GraphTold}
+use Rattle.cardcheck.specs.Graph.{Few, DueAfter, Opened, OpeningTold, NodesRead, GraphTold}
 use Rattle.cardcheck.specs.declared.Header.{Header}
 use Rattle.cardcheck.specs.declared.Opening.{Opening}
 use Rattle.cardcheck.specs.declared.Opening.the-variants as opening
@@ -37,7 +37,7 @@ module _ (ws : List ℕ) (extra : ℕ) where
     pub c : Counts
     pub p : ℕ
     pub tb : List ℕ
-    pub at : p ≡ place c
+    pub at : p ≡ cardLength c
     pub shape : Shape ws c
     pub blanks : Blank tb
     pub same : rest ws extra (1025 - c .graphs) c ≡ all ws extra
@@ -63,11 +63,11 @@ module _ (ws : List ℕ) (extra : ℕ) where
 
   -- what was due where the reader stands
   module _ (i : Going) (d : Due) (ed : d ≡ dueAt ws (i .p)) where
-    pub here : d ≡ dueAt ws (place (i .c))
+    pub here : d ≡ dueAt ws (cardLength (i .c))
     here = ed ∙ ap (dueAt ws) (i .at)
 
-    pub may-open : (i .c .nodes ≤ 4096) × AtPlace d (i .c)
-    may-open = (i .shape .few-nodes, λ w at e. due-word ws (place (i .c)) w at (sym here ∙ e) .2)
+    pub may-open : (i .c .nodes ≤ 4096) × DueAfter d (i .c)
+    may-open = (i .shape .few-nodes, λ w at e. due-word ws (cardLength (i .c)) w at (sym here ∙ e) .2)
 
     pub over-now : (r : Opening) → OpeningTold d (i .c) extra r → (a : Answer) → r ≡ opening.Over a → a ≡ all ws extra
     over-now r told a e = told .over ws (i .shape) here a e ∙ i .same
@@ -77,15 +77,15 @@ module _ (ws : List ℕ) (extra : ℕ) where
     pub few-nodes : h .nodes ≤ 4096
     few-nodes =
         let e : h .nodes ≡ _ = ap (λ (k : Header). k .nodes) (o .header) in
-        omega (arith, e, header-few (word ws (place (i .c))) (i .c) (i .shape .few-nodes) (o .sound))
+        omega (arith, e, header-few (word ws (cardLength (i .c))) (i .c) (i .shape .few-nodes) (o .sound))
 
-    pub next-at : afterAt ws (i .p) ≡ place (i .c) + 1
-    next-at = ap (afterAt ws) (i .at) ∙ after-word ws (place (i .c)) (o .inside)
+    pub next-at : afterAt ws (i .p) ≡ cardLength (i .c) + 1
+    next-at = ap (afterAt ws) (i .at) ∙ after-word ws (cardLength (i .c)) (o .inside)
 
     module _ (r : Verdict) (m : ℕ) (zs : List ℕ) (er : NodesTold ws (afterAt ws (i .p) - 1) (i .c .graphs) (h .nodes) zs m r) where
-      pub told-at : NodesTold ws (place (i .c)) (i .c .graphs) (h .nodes) zs m r
+      pub told-at : NodesTold ws (cardLength (i .c)) (i .c .graphs) (h .nodes) zs m r
       told-at =
-          let e : afterAt ws (i .p) - 1 ≡ place (i .c) = omega (arith, next-at) in
+          let e : afterAt ws (i .p) - 1 ≡ cardLength (i .c) = omega (arith, next-at) in
           subst (λ (k : ℕ). NodesTold ws k (i .c .graphs) (h .nodes) zs m r) e er
 
       pub nodes-read : NodesRead ws (i .c) h r zs
@@ -96,10 +96,10 @@ module _ (ws : List ℕ) (extra : ℕ) where
         over-then a e = told .over ws extra (i .shape) nodes-read a e ∙ i .same
 
         module _ (c′ : Counts) (e : g ≡ graph.Read c′) (good : r ≡ Sound) where
-          abbrev pub said : (graphVerdict ws (i .c) ≡ Sound) × (c′ ≡ withGraph (word ws (place (i .c))) (i .c)) × Blank t
+          abbrev pub said : (graphVerdict ws (i .c) ≡ Sound) × (c′ ≡ withGraph (word ws (cardLength (i .c))) (i .c)) × Blank t
           said = told .read ws nodes-read c′ e
 
-          pub reached : m ≡ place c′
+          pub reached : m ≡ cardLength c′
           reached =
               let n : h .nodes ≡ _ = ap (λ (k : Header). k .nodes) (o .header) in
               told-at .next good ∙ rw (said .1) (omega (arith, n))

@@ -2,3 +2,4 @@
 
 mod Graphs
 mod Turns
+pub mod Counts

@@ -14,7 +14,7 @@ use Rattle.answers.specs.declared.Verdict.the-variants.{Sound, Broken}
 use Rattle.answers.specs.declared.Answer.{Answer}
 use Rattle.answers.specs.declared.Answer.the-variants.{Refused}
 use Rattle.answers.specs.declared.Rule.the-variants.{CardTooLong, NodeNotNamed}
-use Rattle.form.specs.Check.{counts, word, place, withGraph, headerVerdict, unnamed, graphVerdict, ended, rest, checkedWith}
+use Rattle.form.specs.Check.{counts, word, cardLength, withGraph, headerVerdict, unnamed, graphVerdict, ended, rest, checkedWith}
 use Rattle.layout.specs.Shape.{Shape}
 use Rattle.cardcheck.specs.Graph.{headerOf, openingOf, NodesRead}
 use Rattle.cardcheck.specs.declared.Header.{Header}
@@ -22,15 +22,15 @@ use Rattle.cardcheck.specs.declared.Opening.the-variants as opening
 use Rattle.cardcheck.specs.declared.Graph.the-variants as graph
 
 -- One graph, by the parts of its check: its header, its nodes, and whether each is named.
-header-stops : (ws : List ℕ) (c : Counts) (r : Rule) (q : ℕ) → headerVerdict (word ws (place c)) c ≡ Broken r q → graphVerdict ws c ≡ Broken r q
+header-stops : (ws : List ℕ) (c : Counts) (r : Rule) (q : ℕ) → headerVerdict (word ws (cardLength c)) c ≡ Broken r q → graphVerdict ws c ≡ Broken r q
 unfolding graphVerdict
 header-stops ws c r q e = rw e
 
 module _ {ws : List ℕ} {c : Counts} {h : Header} {v : Verdict} {t : List ℕ} (nr : NodesRead ws c h v t) where
-  has : h .nodes ≡ nodeCount (word ws (place c))
+  has : h .nodes ≡ nodeCount (word ws (cardLength c))
   has = ap (λ (h : Header). h .nodes) (nr .opened .header)
 
-  pub same-graph : withGraph (h .word) c ≡ withGraph (word ws (place c)) c
+  pub same-graph : withGraph (h .word) c ≡ withGraph (word ws (cardLength c)) c
   same-graph = ap (λ (h : Header). withGraph (h .word) c) (nr .opened .header)
 
   pub nodes-stops : (r : Rule) (q : ℕ) → v ≡ Broken r q → graphVerdict ws c ≡ Broken r q
@@ -38,11 +38,11 @@ module _ {ws : List ℕ} {c : Counts} {h : Header} {v : Verdict} {t : List ℕ} 
   nodes-stops r q e = rw (nr .opened .sound, ← has, ← nr .verdict, e)
 
   module _ (e : v ≡ Sound) where
-    pub names-stop : unnamed ws (place c) (h .nodes) ≡ true → graphVerdict ws c ≡ Broken NodeNotNamed (place c)
+    pub names-stop : unnamed ws (cardLength c) (h .nodes) ≡ true → graphVerdict ws c ≡ Broken NodeNotNamed (cardLength c)
     unfolding graphVerdict
     names-stop u = rw (nr .opened .sound, ← has, ← nr .verdict, e, u)
 
-    pub graph-sound : unnamed ws (place c) (h .nodes) ≡ false → graphVerdict ws c ≡ Sound
+    pub graph-sound : unnamed ws (cardLength c) (h .nodes) ≡ false → graphVerdict ws c ≡ Sound
     unfolding graphVerdict
     graph-sound u = rw (nr .opened .sound, ← has, ← nr .verdict, e, u)
 
@@ -82,13 +82,13 @@ module _ {ws : List ℕ} {c : Counts} (s : Shape ws c) (extra : ℕ) where
   more : 1025 - c .graphs ≡ suc (1025 - (c .graphs + 1))
   more = omega (arith, s .few-graphs)
 
-  pub rest-end : length ws ≤ place c → rest ws extra (1025 - c .graphs) c ≡ ended ws extra c
+  pub rest-end : length ws ≤ cardLength c → rest ws extra (1025 - c .graphs) c ≡ ended ws extra c
   unfolding rest
   rest-end h = rw (more, le-leb _ _ h)
 
-  module _ (h : place c < length ws) where
+  module _ (h : cardLength c < length ws) where
     pub rest-go : graphVerdict ws c ≡ Sound
-        → rest ws extra (1025 - c .graphs) c ≡ rest ws extra (1025 - (c .graphs + 1)) (withGraph (word ws (place c)) c)
+        → rest ws extra (1025 - c .graphs) c ≡ rest ws extra (1025 - (c .graphs + 1)) (withGraph (word ws (cardLength c)) c)
     unfolding rest
     rest-go e = rw (more, lt-leb _ _ h, e)
 
@@ -98,7 +98,7 @@ module _ {ws : List ℕ} {c : Counts} (s : Shape ws c) (extra : ℕ) where
 
     -- a header that opens no graph ends the check
     pub header-over : (v : Verdict) (p : ℕ) (a : Answer)
-        → headerVerdict (word ws (place c)) c ≡ v → openingOf v (word ws (place c)) p ≡ opening.Over a
+        → headerVerdict (word ws (cardLength c)) c ≡ v → openingOf v (word ws (cardLength c)) p ≡ opening.Over a
         → a ≡ rest ws extra (1025 - c .graphs) c
     unfolding openingOf
     header-over Sound p a e q = let z : _≡_ {A = ℕ} 0 1 = cc in absurd (omega arith)

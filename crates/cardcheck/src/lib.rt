@@ -1,17 +1,28 @@
 // The check of a card: its counts, or the first of document 01's rules that it breaks, and where.
 // It goes through the words once, forward, each word by the reader.
 ghost use mathlib.Core.Path.{_≡_};
-ghost use Prim.Native.Nat.{_≤_};
+ghost use Prim.Native.Nat.{_+_, _≤_, min};
+ghost use lib.ListN.{length};
 ghost use lib.Dec.{eqb};
 ghost use Rattle.lists.specs.Counting.{choose};
+ghost use Rattle.lists.specs.Tables.{front};
 ghost use Rattle.word32.specs.Fields.{kind};
-ghost use Rattle.form.specs.Check.{counts, place, withGraph, inputTests, outputTests, headerVerdict, rest, checkedWith, checkTold};
-ghost use Rattle.answers.specs.Answers.{answerTold};
+ghost use Rattle.form.specs.Check.{counts, cardLength, withGraph, inputTests, outputTests, headerVerdict, rest, checkedWith, lentCheck};
+ghost use Rattle.answers.specs.Limits.{maxGraphs, maxNodes, maxFaults};
+ghost use Rattle.answers.specs.Answers.{valuesOf};
+ghost use Rattle.answers.specs.Calls.{lent, whole};
+ghost use Rattle.answers.specs.Ends.{EndsAs};
 ghost use Rattle.answers.specs.Tests.{firstBroken};
 ghost use Rattle.nodecheck.specs.Table.{Blank};
-ghost use Rattle.cardcheck.specs.Graph.{EndTold, AtPlace, openingOf, OpeningTold, Few, GraphTold};
+ghost use Rattle.cardcheck.specs.Calls.{checkOutcome};
+ghost use Rattle.cardcheck.specs.Graph.{EndTold, DueAfter, openingOf, OpeningTold, Few, GraphTold};
 use answers::Answer;
 use answers::Counts;
+use answers::Ended;
+use answers::MAX_GRAPHS;
+use answers::MAX_NODES;
+use answers::MAX_WORDS;
+use answers::Reply;
 use answers::Rule;
 use answers::Verdict;
 use nodecheck::Named;
@@ -51,7 +62,7 @@ pub fn check_input(w: u32, at: usize, c: Counts) -> Verdict
 
 // An output's header.
 fn check_output(w: u32, at: usize, c: Counts) -> Verdict
-    requires { ⌜ (at ≡ place c) × (c .nodes ≤ 4096) ⌝ }
+    requires { ⌜ (at ≡ cardLength c) × (c .nodes ≤ maxNodes) ⌝ }
     ensures { λ r. ⌜ r ≡ firstBroken (outputTests w c) ⌝ }
 {
     let n = word32::node_count(w);
@@ -64,7 +75,7 @@ fn check_output(w: u32, at: usize, c: Counts) -> Verdict
     if n == 0 {
         return Verdict::Broken(Rule::NodeCount, at);
     }
-    if 4096 < c.nodes + n {
+    if MAX_NODES < c.nodes + n {
         return Verdict::Broken(Rule::NodeCount, at);
     }
     Verdict::Sound
@@ -72,10 +83,10 @@ fn check_output(w: u32, at: usize, c: Counts) -> Verdict
 
 // Any header.
 fn check_header(w: u32, at: usize, c: Counts) -> Verdict
-    requires { ⌜ (at ≡ place c) × (c .nodes ≤ 4096) ⌝ }
+    requires { ⌜ (at ≡ cardLength c) × (c .nodes ≤ maxNodes) ⌝ }
     ensures { λ r. ⌜ r ≡ headerVerdict w c ⌝ }
 {
-    if 1024 <= c.graphs {
+    if MAX_GRAPHS <= c.graphs {
         return Verdict::Broken(Rule::TooManyGraphs, at);
     }
     if word32::kind(w) == 0 {
@@ -127,7 +138,7 @@ pub fn finish(len: usize, extra: usize, c: Counts) -> Answer
 
 // A header that is due.
 fn open_word(w: u32, at: usize, c: Counts) -> Opening
-    requires { ⌜ (at ≡ place c) × (c .nodes ≤ 4096) ⌝ }
+    requires { ⌜ (at ≡ cardLength c) × (c .nodes ≤ maxNodes) ⌝ }
     ensures { λ r. ⌜ r ≡ openingOf (headerVerdict w c) w at ⌝ }
 {
     if let Verdict::Broken(rule, position) = check_header(w, at, c) {
@@ -139,7 +150,7 @@ fn open_word(w: u32, at: usize, c: Counts) -> Opening
 
 // What is due after the graphs that c counts: one graph more, or the end of the words.
 fn open_graph(due: Due, c: Counts, extra: usize) -> Opening
-    requires { ⌜ (c .nodes ≤ 4096) × AtPlace due c ⌝ }
+    requires { ⌜ (c .nodes ≤ maxNodes) × DueAfter due c ⌝ }
     ensures { λ r. ⌜ OpeningTold due c extra r ⌝ }
 {
     match due {
@@ -150,7 +161,7 @@ fn open_graph(due: Due, c: Counts, extra: usize) -> Opening
 
 // The graph whose header and nodes are read: whether each node is named, and then the counts with it. The table is blank again after a sound graph.
 fn close_graph(h: Header, nodes: Verdict, c: Counts, table: &mut Named) -> Graph
-    requires { ⌜ (h .nodes ≤ 4096) × Few c ⌝ }
+    requires { ⌜ (h .nodes ≤ maxNodes) × Few c ⌝ }
     ensures { λ r. ⌜ GraphTold h nodes c (now (table .entry)) (now (table .exit)) r ⌝ }
 {
     if let Verdict::Broken(rule, position) = nodes {
@@ -165,7 +176,7 @@ fn close_graph(h: Header, nodes: Verdict, c: Counts, table: &mut Named) -> Graph
 // All the words, and so many bytes after them that make no word: one reader goes from the first word to the last.
 fn check_words(card: &[u32], extra: usize, table: &mut Named) -> Answer
     requires { ⌜ Blank (now table) ⌝ }
-    ensures { λ r. ⌜ r ≡ rest (now (card .entry)) extra 1025 (counts 0 0 0 0) ⌝ }
+    ensures { λ r. ⌜ r ≡ rest (now (card .entry)) extra (maxGraphs + 1) (counts 0 0 0 0) ⌝ }
 {
     let mut r = reader::new(card, 0);
     let mut c = Counts {
@@ -200,7 +211,7 @@ fn check_words(card: &[u32], extra: usize, table: &mut Named) -> Answer
 pub fn check_with(card: &[u32], extra: usize) -> Answer
     ensures { λ r. ⌜ r ≡ checkedWith (now (card .entry)) extra ⌝ }
 {
-    if 9216 < card.len() {
+    if MAX_WORDS < card.len() {
         return Answer::Refused(Rule::CardTooLong, 0);
     }
     let mut table = nodecheck::none_named();
@@ -209,7 +220,48 @@ pub fn check_with(card: &[u32], extra: usize) -> Answer
 
 // The check of a card.
 pub fn check(card: &[u32]) -> Answer
-    ensures { λ r. ⌜ answerTold r ≡ checkTold (now (card .entry)) ⌝ }
+    ensures { λ r. ⌜ r ≡ lentCheck (whole (now (card .entry))) ⌝ }
 {
     check_with(card, 0)
+}
+
+// The numbers of a check go to the front of a buffer, as words.
+fn put_counts(c: Counts, numbers: &mut [u32])
+    requires { ⌜ (c .inputs ≤ maxFaults) × (c .graphs ≤ maxFaults) × (c .nodes ≤ maxFaults) × (c .observable ≤ maxFaults) × (c .faults ≤ maxFaults) × (5 ≤ length (now numbers)) ⌝ }
+    ensures { λ _. ⌜ now (numbers .exit) ≡ front (valuesOf c) (now (numbers .entry)) ⌝ }
+{
+    numbers[0] = c.inputs as u32;
+    numbers[1] = c.graphs as u32;
+    numbers[2] = c.nodes as u32;
+    numbers[3] = c.observable as u32;
+    numbers[4] = c.faults as u32;
+}
+
+// The same with the numbers in the front of a buffer, for one of `room` words.
+pub fn check_counts(card: &[u32], extra: usize, room: usize, numbers: &mut [u32]) -> Ended
+    requires { ⌜ min room 5 ≤ length (now numbers) ⌝ }
+    ensures { λ r. ⌜ EndsAs (checkOutcome (lent (now (card .entry)) extra) room) room r (now (numbers .entry)) (now (numbers .exit)) ⌝ }
+{
+    match check_with(card, extra) {
+        Answer::Refused(rule, position) => Ended {
+            reply: Reply::Refused(rule, position),
+            words: 0,
+            more: 0,
+        },
+        Answer::Accepted(c) => {
+            if room < 5 {
+                return Ended {
+                    reply: Reply::Refused(Rule::BufferTooShort, 0),
+                    words: 0,
+                    more: 0,
+                };
+            }
+            put_counts(c, numbers);
+            Ended {
+                reply: Reply::Done(0),
+                words: 5,
+                more: 0,
+            }
+        }
+    }
 }

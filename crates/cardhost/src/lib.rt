@@ -1,29 +1,33 @@
 // The calls for the fixture's host, in C: cards, vectors, lists of faults, wires and buffers are bytes, each word four of them, highest byte first, and
-// the answer is one 64-bit number.
-ghost use mathlib.Core.Path.{_≡_};
-ghost use Rattle.hostcheck.specs.Calls.{checkAnswer, checkBytes};
-ghost use Rattle.hostvalues.specs.Calls.{goodAnswer, goodBytes, faultAnswer, faultBytes};
-ghost use Rattle.hostchanges.specs.Calls.{changeAnswer, changeBytes, criticalAnswer, criticalBytes};
-ghost use Rattle.hostgrade.specs.Calls.{gradeAnswer, markBytes, tallyBytes};
-ghost use Rattle.hostjoin.specs.Calls.{joinAnswer, joinBytes};
-ghost use Rattle.hostgates.specs.Calls.{fromGatesAnswer, fromGatesBytes};
+// the answer is one 64-bit number. What is lent is read into words, the call is the one by words, and its words are written as bytes.
+ghost use Rattle.inbytes.specs.Calls.{ofBytes, InBytes, InBytesBoth};
+ghost use Rattle.cardcheck.specs.Calls.{checkOutcome};
+ghost use Rattle.plain.specs.Calls.{goodOutcome, faultOutcome};
+ghost use Rattle.changes.specs.Calls.{changeOutcome, criticalOutcome};
+ghost use Rattle.grade.specs.Calls.{gradeOutcome};
+ghost use Rattle.join.specs.Calls.{joinOutcome};
+ghost use Rattle.gates.specs.Calls.{toCardOutcome};
 
 // Check: the numbers of inputs, graphs, nodes, observable graphs and faults, in a buffer of at least five words.
 #[no_mangle]
 pub extern "C" fn card_check(card: &[u8], numbers: &mut [u8]) -> u64
-    ensures { λ r. ⌜ (r ≡ checkAnswer (now (card .entry)) (now (numbers .entry)))
-        × (now (numbers .exit) ≡ checkBytes (now (card .entry)) (now (numbers .entry))) ⌝ }
+    ensures { λ r. ⌜ InBytes (checkOutcome (ofBytes (now (card .entry)))) r (now (numbers .entry)) (now (numbers .exit)) ⌝ }
 {
-    hostcheck::check(card, numbers)
+    let mut ws = inbytes::card_room();
+    let mut out = [0u32; 5];
+    let n = inbytes::read_words(card, &mut ws);
+    let end = cardcheck::check_counts(&ws[..n], card.len() % 4, numbers.len() / 4, &mut out);
+    inbytes::answer(end, &out, numbers)
 }
 
-// Good values: one word 0 or 1 for each graph.
+// Good values: one word 0 or 1 for each graph; those of the empty list of faults.
 #[no_mangle]
 pub extern "C" fn card_good_values(card: &[u8], vector: &[u8], values: &mut [u8]) -> u64
-    ensures { λ r. ⌜ (r ≡ goodAnswer (now (card .entry)) (now (vector .entry)) (now (values .entry)))
-        × (now (values .exit) ≡ goodBytes (now (card .entry)) (now (vector .entry)) (now (values .entry))) ⌝ }
+    ensures { λ r. ⌜ InBytes (goodOutcome (ofBytes (now (card .entry))) (ofBytes (now (vector .entry))))
+        r (now (values .entry)) (now (values .exit)) ⌝ }
 {
-    hostvalues::good_values(card, vector, values)
+    let none = [0u8; 1];
+    card_fault_values(card, vector, &none[..0], values)
 }
 
 // Values with the faults of a list in, all holding together.
@@ -34,32 +38,76 @@ pub extern "C" fn card_fault_values(
     faults: &[u8],
     values: &mut [u8],
 ) -> u64
-    ensures { λ r. ⌜ (r ≡ faultAnswer (now (card .entry)) (now (vector .entry)) (now (faults .entry)) (now (values .entry)))
-        × (now (values .exit) ≡ faultBytes (now (card .entry)) (now (vector .entry)) (now (faults .entry)) (now (values .entry))) ⌝ }
+    ensures { λ r. ⌜ InBytes (faultOutcome (ofBytes (now (card .entry))) (ofBytes (now (vector .entry))) (ofBytes (now (faults .entry))))
+        r (now (values .entry)) (now (values .exit)) ⌝ }
 {
-    hostvalues::fault_values(card, vector, faults, values)
+    let mut ws = inbytes::card_room();
+    let mut x = inbytes::vector_room();
+    let mut list = hostfaults::faults_room();
+    let mut out = layout::graph_table();
+    let n = inbytes::read_words(card, &mut ws);
+    let k = inbytes::read_words(vector, &mut x);
+    let m = hostfaults::read_faults(faults, &mut list);
+    let end = plain::fault_values_with(
+        &ws[..n],
+        card.len() % 4,
+        &x[..k],
+        vector.len() % 4,
+        &list[..m],
+        faults.len() % 4,
+        values.len() / 4,
+        &mut out,
+    );
+    inbytes::answer(end, &out, values)
 }
 
 // The change list of a graph: its length, and the numbers rising in the front of the buffer.
 #[no_mangle]
 pub extern "C" fn card_change_list(card: &[u8], vector: &[u8], graph: u32, list: &mut [u8]) -> u64
-    ensures { λ r. ⌜ (r ≡ changeAnswer (now (card .entry)) (now (vector .entry)) graph (now (list .entry)))
-        × (now (list .exit) ≡ changeBytes (now (card .entry)) (now (vector .entry)) graph (now (list .entry))) ⌝ }
+    ensures { λ r. ⌜ InBytes (changeOutcome (ofBytes (now (card .entry))) (ofBytes (now (vector .entry))) graph)
+        r (now (list .entry)) (now (list .exit)) ⌝ }
 {
-    hostchanges::change_list(card, vector, graph, list)
+    let mut ws = inbytes::card_room();
+    let mut x = inbytes::vector_room();
+    let mut out = layout::graph_table();
+    let n = inbytes::read_words(card, &mut ws);
+    let k = inbytes::read_words(vector, &mut x);
+    let end = changes::change_list_with(
+        &ws[..n],
+        card.len() % 4,
+        &x[..k],
+        vector.len() % 4,
+        graph,
+        list.len() / 4,
+        &mut out,
+    );
+    inbytes::answer(end, &out, list)
 }
 
 // Critical nodes: one word for each node, 1 where forcing its other exit alters an observable graph, else 0.
 #[no_mangle]
 pub extern "C" fn card_critical_nodes(card: &[u8], vector: &[u8], nodes: &mut [u8]) -> u64
-    ensures { λ r. ⌜ (r ≡ criticalAnswer (now (card .entry)) (now (vector .entry)) (now (nodes .entry)))
-        × (now (nodes .exit) ≡ criticalBytes (now (card .entry)) (now (vector .entry)) (now (nodes .entry))) ⌝ }
+    ensures { λ r. ⌜ InBytes (criticalOutcome (ofBytes (now (card .entry))) (ofBytes (now (vector .entry))))
+        r (now (nodes .entry)) (now (nodes .exit)) ⌝ }
 {
-    hostchanges::critical_nodes(card, vector, nodes)
+    let mut ws = inbytes::card_room();
+    let mut x = inbytes::vector_room();
+    let mut out = layout::node_table();
+    let n = inbytes::read_words(card, &mut ws);
+    let k = inbytes::read_words(vector, &mut x);
+    let end = changes::critical_nodes_with(
+        &ws[..n],
+        card.len() % 4,
+        &x[..k],
+        vector.len() % 4,
+        nodes.len() / 4,
+        &mut out,
+    );
+    inbytes::answer(end, &out, nodes)
 }
 
 // The grading: for each fault its mark, C0000000 if no vector catches it, else E0000000 plus the number of the earliest that does; its tally, the number of
-// vectors that catch it; and the marked count, of the faults that count in the grade.
+// vectors that catch it; and the marked count, of the faults that count in the grade. The list is read in place.
 #[no_mangle]
 pub extern "C" fn card_grade(
     card: &[u8],
@@ -67,27 +115,61 @@ pub extern "C" fn card_grade(
     marks: &mut [u8],
     tallies: &mut [u8],
 ) -> u64
-    ensures { λ r. ⌜ (r ≡ gradeAnswer (now (card .entry)) (now (vectors .entry)) (now (marks .entry)) (now (tallies .entry)))
-        × (now (marks .exit) ≡ markBytes (now (card .entry)) (now (vectors .entry)) (now (marks .entry)) (now (tallies .entry)))
-        × (now (tallies .exit) ≡ tallyBytes (now (card .entry)) (now (vectors .entry)) (now (marks .entry)) (now (tallies .entry))) ⌝ }
+    ensures { λ r. ⌜ InBytesBoth (gradeOutcome (ofBytes (now (card .entry))) (ofBytes (now (vectors .entry))))
+        r (now (marks .entry)) (now (tallies .entry)) (now (marks .exit)) (now (tallies .exit)) ⌝ }
 {
-    hostgrade::grade(card, vectors, marks, tallies)
+    let mut ws = inbytes::card_room();
+    let mut out = layout::fault_table();
+    let mut more = layout::fault_table();
+    let none = [0u32; 1];
+    let n = inbytes::read_words(card, &mut ws);
+    let end = grade::grade_with(
+        &ws[..n],
+        card.len() % 4,
+        &none[..0],
+        vectors,
+        marks.len() / 4,
+        tallies.len() / 4,
+        &mut out,
+        &mut more,
+    );
+    inbytes::answer_both(end, &out, &more, marks, tallies)
 }
 
 // Two cards wired together: the number of the joined card's words, which stand in the front of the buffer.
 #[no_mangle]
 pub extern "C" fn card_join(a: &[u8], b: &[u8], wires: &[u8], card: &mut [u8]) -> u64
-    ensures { λ r. ⌜ (r ≡ joinAnswer (now (a .entry)) (now (b .entry)) (now (wires .entry)) (now (card .entry)))
-        × (now (card .exit) ≡ joinBytes (now (a .entry)) (now (b .entry)) (now (wires .entry)) (now (card .entry))) ⌝ }
+    ensures { λ r. ⌜ InBytes (joinOutcome (ofBytes (now (a .entry))) (ofBytes (now (b .entry))) (ofBytes (now (wires .entry))))
+        r (now (card .entry)) (now (card .exit)) ⌝ }
 {
-    hostjoin::join(a, b, wires, card)
+    let mut wa = inbytes::card_room();
+    let mut wb = inbytes::card_room();
+    let mut ws = inbytes::wires_room();
+    let mut out = layout::card_table();
+    let n = inbytes::read_words(a, &mut wa);
+    let m = inbytes::read_words(b, &mut wb);
+    let k = inbytes::read_words(wires, &mut ws);
+    let end = join::join_with(
+        &wa[..n],
+        a.len() % 4,
+        &wb[..m],
+        b.len() % 4,
+        &ws[..k],
+        wires.len() % 4,
+        card.len() / 4,
+        &mut out,
+    );
+    inbytes::answer(end, &out, card)
 }
 
 // A gate list turned into a card: the number of the card's words, which stand in the front of the buffer.
 #[no_mangle]
 pub extern "C" fn card_from_gates(gates: &[u8], card: &mut [u8]) -> u64
-    ensures { λ r. ⌜ (r ≡ fromGatesAnswer (now (gates .entry)) (now (card .entry)))
-        × (now (card .exit) ≡ fromGatesBytes (now (gates .entry)) (now (card .entry))) ⌝ }
+    ensures { λ r. ⌜ InBytes (toCardOutcome (ofBytes (now (gates .entry)))) r (now (card .entry)) (now (card .exit)) ⌝ }
 {
-    hostgates::from_gates(gates, card)
+    let mut ws = inbytes::card_room();
+    let mut out = layout::card_table();
+    let n = inbytes::read_words(gates, &mut ws);
+    let end = gates::to_card_with(&ws[..n], gates.len() % 4, card.len() / 4, &mut out);
+    inbytes::answer(end, &out, card)
 }

@@ -12,7 +12,7 @@ use Rattle.bitset.specs.Members.{member, Gains}
 use Rattle.bitset.proofs.Bits.{member-same}
 use Rattle.layout.specs.Layout.{first, size, reads}
 use Rattle.cardtables.specs.Tables.{readersOf, soleOf, onlyOf, Noted}
-use Rattle.layout.proofs.Firsts.{one-place}
+use Rattle.layout.proofs.Firsts.{one-node}
 use Rattle.cardtables.proofs.Only.{only-next, only-kept}
 
 -- no node is noted yet
@@ -39,7 +39,7 @@ module _ {ws t u y : List ℕ} {q : ℕ → ℕ} (n k : ℕ) {m r base s p : ℕ
   -- a noted node is an earlier one or node m
   either : {A : Type 0} (h j : ℕ) → j < size ws h → first ws h + j < m + 1 → (first ws h + j < m → A) → (h ≡ n → j ≡ k → A) → A
   either h j i a f c = elim (ℕ-discrete (first ws h + j) m) [
-    | yes x ↦ let x′ = one-place ws n h k j l i (sym (x ∙ e)) in c (x′ .0) (x′ .1)
+    | yes x ↦ let x′ = one-node ws n h k j l i (sym (x ∙ e)) in c (x′ .0) (x′ .1)
     | no x ↦ f (omega arith)
   ]
 

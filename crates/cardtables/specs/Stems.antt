@@ -23,15 +23,15 @@ module _ (ws : List ℕ) (c : Counts) where
   unfolding observable readers
   hasStem g = observable ws g || not (eqb (readers g) 1)
 
-  -- place p, which is node p or graph p - N, counts in the grade: every node does, and a graph that has a stem
-  unfoldable pub placeInGrade : ℕ → Bool
+  -- site p, which is node p or graph p - N, counts in the grade: every node does, and a graph that has a stem
+  unfoldable pub siteInGrade : ℕ → Bool
   unfolding hasStem
-  placeInGrade p = ltb p (c .nodes) || hasStem (p - c .nodes)
+  siteInGrade p = ltb p (c .nodes) || hasStem (p - c .nodes)
 
-  -- FAULT f COUNTS IN THE GRADE: it is one of the two of a place that does
+  -- FAULT f COUNTS IN THE GRADE: it is one of the two of a site that does
   unfoldable pub inGrade : ℕ → Bool
-  unfolding placeInGrade
-  inGrade f = placeInGrade (f / 2)
+  unfolding siteInGrade
+  inGrade f = siteInGrade (f / 2)
 
   -- THE TOTAL: how many faults count
   unfoldable pub total : ℕ

@@ -8,28 +8,47 @@ use lib.ListN.{length, getD}
 use lib.Dec.{ltb, eqb}
 use Rattle.lists.specs.Counting.{choose}
 use Rattle.bitset.specs.Members.{member}
+use Rattle.answers.specs.Limits.{maxGraphs, maxNodes, maxSites}
 use Rattle.answers.specs.declared.Counts.{Counts}
 use Rattle.layout.specs.Layout.{first, size, reads}
 use Rattle.layout.specs.Tables.{Ready}
-use Rattle.cardtables.specs.Stems.{readBy, placeInGrade}
+use Rattle.cardtables.specs.Stems.{readBy, siteInGrade}
 
--- where the word that tells the only reader of graph r stands in the tables, where the set of its readers does, and where the word of place p does
+-- where the words of the only readers begin, after the first nodes; the sets of readers, of 32 words each; the words of the sites; and their end
+abbrev pub soleFrom : ℕ
+soleFrom = maxGraphs + 32
+
+abbrev pub readersFrom : ℕ
+readersFrom = soleFrom + maxGraphs
+
+abbrev pub gradeFrom : ℕ
+gradeFrom = readersFrom + 32 * maxGraphs
+
+abbrev pub tablesLength : ℕ
+tablesLength = gradeFrom + maxSites
+
+-- where the word that tells the only reader of graph r stands in the tables, where the set of its readers does, and where the word of site p does
 abbrev pub soleOf : ℕ → ℕ
-soleOf r = 1056 + r
+soleOf r = soleFrom + r
 
 abbrev pub readersOf : ℕ → ℕ
-readersOf r = 2080 + 32 * r
+readersOf r = readersFrom + 32 * r
 
 abbrev pub gradeOf : ℕ → ℕ
-gradeOf p = 34848 + p
+gradeOf p = gradeFrom + p
 
--- Which of the first m numbers alone passes: its number plus 1, or 0 where none passes, or 4097 where several do; and whether such a word tells a number.
+-- what the word of a graph is that several nodes read: over every node's number plus 1
+abbrev pub severalReaders : ℕ
+severalReaders = maxNodes + 1
+
+-- Which of the first m numbers alone passes: its number plus 1, or 0 where none passes, or `severalReaders` where several do; and whether such a word
+-- tells a number.
 unfoldable pub onlyOf : (ℕ → Bool) → ℕ → ℕ
 onlyOf p zero = 0
-onlyOf p (suc m) = choose (p m) (choose (eqb (onlyOf p m) 0) (m + 1) 4097) (onlyOf p m)
+onlyOf p (suc m) = choose (p m) (choose (eqb (onlyOf p m) 0) (m + 1) severalReaders) (onlyOf p m)
 
 abbrev pub isOnly : ℕ → Bool
-isOnly w = ltb 0 w && ltb w 4097
+isOnly w = ltb 0 w && ltb w severalReaders
 
 -- of the nodes of graph h: node j reads graph q j
 abbrev pub ReadIn : List ℕ → (ℕ → ℕ) → ℕ → Type 0
@@ -38,14 +57,14 @@ ReadIn ws q h = (k : ℕ) → k < size ws h → q (first ws h + k) ≡ reads ws 
 -- The tables have the first m nodes, where node j reads graph q j. The graph of each is in the set of the graph that it reads; what else is in a set is
 -- left open. The word of each graph tells its only reader among them.
 pub record Noted (ws : List ℕ) (q : ℕ → ℕ) (m : ℕ) (t : List ℕ) : Type 0 where
-  pub few : (h k : ℕ) → k < size ws h → first ws h + k < m → (h < 1024) × (reads ws h k < 1024)
+  pub few : (h k : ℕ) → k < size ws h → first ws h + k < m → (h < maxGraphs) × (reads ws h k < maxGraphs)
   pub readers : (h k : ℕ) → k < size ws h → first ws h + k < m → 0 < member t (readersOf (reads ws h k)) h
-  pub sole : (r : ℕ) → r < 1024 → getD t (soleOf r) 0 ≡ onlyOf (λ j. eqb (q j) r) m
+  pub sole : (r : ℕ) → r < maxGraphs → getD t (soleOf r) 0 ≡ onlyOf (λ j. eqb (q j) r) m
 
--- all tables, one after the other: for each graph its first node, its only reader, and a set that has its readers; for each place whether it counts in
+-- all tables, one after the other: for each graph its first node, its only reader, and a set that has its readers; for each site whether it counts in
 -- the grade
 pub record Tabled (ws : List ℕ) (c : Counts) (t : List ℕ) : Type 0 where
   pub ready : Ready ws c t
-  pub long : 39968 ≤ length t
+  pub long : tablesLength ≤ length t
   pub noted : Noted ws (readBy ws c) (c .nodes) t
-  pub places : (p : ℕ) → p < c .nodes + c .graphs → getD t (gradeOf p) 0 ≡ choose (placeInGrade ws c p) 1 0
+  pub sites : (p : ℕ) → p < c .nodes + c .graphs → getD t (gradeOf p) 0 ≡ choose (siteInGrade ws c p) 1 0

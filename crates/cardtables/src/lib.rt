@@ -6,34 +6,43 @@ ghost use Prim.Native.Nat.{ℕ, _+_, _*_, _≤_, _<_};
 ghost use lib.ListN.{length, getD};
 ghost use lib.Dec.{eqb};
 ghost use Rattle.lists.specs.Counting.{choose};
+ghost use Rattle.answers.specs.Limits.{maxGraphs, maxNodes, maxSites};
 ghost use Rattle.word32.specs.Fields.{readGraph};
 ghost use Rattle.layout.specs.Layout.{first, size, observable, reads};
 ghost use Rattle.layout.specs.Shape.{Shape};
 ghost use Rattle.layout.specs.Tables.{Ready, Walkable};
-ghost use Rattle.cardtables.specs.Stems.{readBy, placeInGrade, total};
-ghost use Rattle.cardtables.specs.Tables.{soleOf, readersOf, gradeOf, isOnly, ReadIn, Noted, Tabled};
+ghost use Rattle.cardtables.specs.Stems.{readBy, siteInGrade, total};
+ghost use Rattle.cardtables.specs.Tables.{soleOf, readersOf, gradeOf, gradeFrom, tablesLength, severalReaders, isOnly, ReadIn, Noted, Tabled};
 use answers::Counts;
+use answers::MAX_GRAPHS;
+use answers::MAX_NODES;
+use answers::MAX_SITES;
 
 // The tables of a card, one after the other, each at a multiple of 32 words: the first node of each graph; where one node alone reads it, that node's number
-// plus 1; a set of 32 words that has every graph which reads it; and for each place 1 where its faults count in the grade, else 0.
-pub type Tables = [u32; 39968];
+// plus 1; a set of 32 words that has every graph which reads it; and for each site 1 where its faults count in the grade, else 0.
+pub type Tables = [u32; TABLES];
 
-const SOLE: usize = 1056;
+const SOLE: usize = MAX_GRAPHS + 32;
 
-const READERS: usize = 2080;
+const READERS: usize = SOLE + MAX_GRAPHS;
 
-const GRADE: usize = 34848;
+const GRADE: usize = READERS + 32 * MAX_GRAPHS;
+
+const TABLES: usize = GRADE + MAX_SITES;
+
+// What a word for an only reader is where several nodes read the graph.
+const SEVERAL: u32 = MAX_NODES as u32 + 1;
 
 // Room for the tables of any card, with no reader in them.
 fn empty_tables() -> Tables
-    ensures { λ r. ⌜ (39968 ≡ length r) × ((i : ℕ) → i < 39968 → getD r i 0 ≡ 0) ⌝ }
+    ensures { λ r. ⌜ (tablesLength ≡ length r) × ((i : ℕ) → i < tablesLength → getD r i 0 ≡ 0) ⌝ }
 {
-    [0u32; 39968]
+    [0u32; TABLES]
 }
 
-// The number of the only node that reads graph r, plus 1; 0 where none does, and 4097, which is above all of these, where several do.
+// The number of the only node that reads graph r, plus 1; 0 where none does, and `SEVERAL`, which is above all of these, where several do.
 pub fn sole_reader(tables: &[u32], r: usize) -> u32
-    requires { ⌜ (r < 1024) × (34848 ≤ length (now tables)) ⌝ }
+    requires { ⌜ (r < maxGraphs) × (gradeFrom ≤ length (now tables)) ⌝ }
     ensures { λ p. ⌜ p ≡ getD (now (tables .entry)) (soleOf r) 0 ⌝ }
 {
     lists::get(tables, SOLE + r)
@@ -46,12 +55,12 @@ pub fn is_sole(p: u32) -> bool
     if p == 0 {
         return false;
     }
-    p < 4097
+    p < SEVERAL
 }
 
 // Where the set of graph r's readers stands in the tables.
 pub fn readers_of(r: usize) -> usize
-    requires { ⌜ r < 1024 ⌝ }
+    requires { ⌜ r < maxGraphs ⌝ }
     ensures { λ p. ⌜ p ≡ readersOf r ⌝ }
 {
     READERS + 32 * r
@@ -59,19 +68,19 @@ pub fn readers_of(r: usize) -> usize
 
 // What a table says of a graph's only reader, which said `had`, after one more node that reads it: node j.
 fn sole_with(had: u32, j: usize) -> u32
-    requires { ⌜ j < 4096 ⌝ }
-    ensures { λ r. ⌜ (had ≡ 0 → r ≡ j + 1) × (0 < had → r ≡ 4097) ⌝ }
+    requires { ⌜ j < maxNodes ⌝ }
+    ensures { λ r. ⌜ (had ≡ 0 → r ≡ j + 1) × (0 < had → r ≡ severalReaders) ⌝ }
 {
     if had == 0 {
         return j as u32 + 1;
     }
-    4097
+    SEVERAL
 }
 
 // Node j, of graph h, is noted: h is one of the readers of the graph that it reads, and j the only one if there was none.
 fn note_node(card: &[u32], h: usize, j: usize, tables: &mut [u32])
-    requires { ⌜ (h + 1 + 2 * j < length (now card)) × (readGraph (getD (now card) (h + 1 + 2 * j) 0) < 1024) × (h < 1024) × (j < 4096)
-        × (34848 ≤ length (now tables)) ⌝ }
+    requires { ⌜ (h + 1 + 2 * j < length (now card)) × (readGraph (getD (now card) (h + 1 + 2 * j) 0) < maxGraphs) × (h < maxGraphs) × (j < maxNodes)
+        × (gradeFrom ≤ length (now tables)) ⌝ }
     ensures { λ _. ⌜ ((q : ℕ → ℕ) (k : ℕ) → k < size (now (card .entry)) h → j ≡ first (now (card .entry)) h + k → q j ≡ reads (now (card .entry)) h k
         → Noted (now (card .entry)) q j (now (tables .entry)) → Noted (now (card .entry)) q (j + 1) (now (tables .exit))) ⌝ }
 {
@@ -83,7 +92,7 @@ fn note_node(card: &[u32], h: usize, j: usize, tables: &mut [u32])
 
 // All nodes of graph h.
 fn note_graph(card: &[u32], firsts: &[u32], h: usize, tables: &mut [u32])
-    requires { ⌜ Walkable (now card) (now firsts) h × (h < 1024) × (first (now card) h + size (now card) h ≤ 4096) × (34848 ≤ length (now tables)) ⌝ }
+    requires { ⌜ Walkable (now card) (now firsts) h × (h < maxGraphs) × (first (now card) h + size (now card) h ≤ maxNodes) × (gradeFrom ≤ length (now tables)) ⌝ }
     ensures { λ _. ⌜ ((q : ℕ → ℕ) → ReadIn (now (card .entry)) q h → Noted (now (card .entry)) q (first (now (card .entry)) h) (now (tables .entry))
         → Noted (now (card .entry)) q (first (now (card .entry)) (h + 1)) (now (tables .exit))) ⌝ }
 {
@@ -98,7 +107,7 @@ fn note_graph(card: &[u32], firsts: &[u32], h: usize, tables: &mut [u32])
 
 // All nodes.
 fn note_readers(card: &[u32], c: Counts, firsts: &[u32], tables: &mut [u32])
-    requires { ⌜ Ready (now card) c (now firsts) × (34848 ≤ length (now tables)) × Noted (now card) (readBy (now card) c) 0 (now tables) ⌝ }
+    requires { ⌜ Ready (now card) c (now firsts) × (gradeFrom ≤ length (now tables)) × Noted (now card) (readBy (now card) c) 0 (now tables) ⌝ }
     ensures { λ _. ⌜ Noted (now (card .entry)) (readBy (now (card .entry)) c) (c .nodes) (now (tables .exit)) ⌝ }
 {
     let mut h = 0;
@@ -110,7 +119,7 @@ fn note_readers(card: &[u32], c: Counts, firsts: &[u32], tables: &mut [u32])
 
 // Whether graph g has a stem, as the tables tell its only reader.
 fn has_stem(card: &[u32], tables: &[u32], g: usize) -> bool
-    requires { ⌜ Walkable (now card) (now tables) g × (g < 1024) × (34848 ≤ length (now tables)) ⌝ }
+    requires { ⌜ Walkable (now card) (now tables) g × (g < maxGraphs) × (gradeFrom ≤ length (now tables)) ⌝ }
     ensures { λ r. ⌜ r ≡ observable (now (card .entry)) g || not (isOnly (getD (now (tables .entry)) (soleOf g) 0)) ⌝ }
 {
     if layout::is_observable(card, tables, g) {
@@ -119,11 +128,11 @@ fn has_stem(card: &[u32], tables: &[u32], g: usize) -> bool
     !is_sole(sole_reader(tables, g))
 }
 
-// The word of place p, a node or a graph: 1 where its faults count in the grade, else 0.
+// The word of site p, a node or a graph: 1 where its faults count in the grade, else 0.
 fn grade_word(card: &[u32], c: Counts, tables: &[u32], p: usize) -> u32
-    requires { ⌜ Ready (now card) c (now tables) × Noted (now card) (readBy (now card) c) (c .nodes) (now tables) × (34848 ≤ length (now tables))
+    requires { ⌜ Ready (now card) c (now tables) × Noted (now card) (readBy (now card) c) (c .nodes) (now tables) × (gradeFrom ≤ length (now tables))
         × (p < c .nodes + c .graphs) ⌝ }
-    ensures { λ r. ⌜ r ≡ choose (placeInGrade (now (card .entry)) c p) 1 0 ⌝ }
+    ensures { λ r. ⌜ r ≡ choose (siteInGrade (now (card .entry)) c p) 1 0 ⌝ }
 {
     if p < c.nodes {
         return 1;
@@ -134,9 +143,9 @@ fn grade_word(card: &[u32], c: Counts, tables: &[u32], p: usize) -> u32
     0
 }
 
-// The words of all places.
-fn grade_places(card: &[u32], c: Counts, tables: &mut [u32])
-    requires { ⌜ Ready (now card) c (now tables) × Noted (now card) (readBy (now card) c) (c .nodes) (now tables) × (39968 ≤ length (now tables)) ⌝ }
+// The words of all sites.
+fn grade_sites(card: &[u32], c: Counts, tables: &mut [u32])
+    requires { ⌜ Ready (now card) c (now tables) × Noted (now card) (readBy (now card) c) (c .nodes) (now tables) × (tablesLength ≤ length (now tables)) ⌝ }
     ensures { λ _. ⌜ Tabled (now (card .entry)) c (now (tables .exit)) ⌝ }
 {
     let n = c.nodes + c.graphs;
@@ -148,14 +157,14 @@ fn grade_places(card: &[u32], c: Counts, tables: &mut [u32])
     }
 }
 
-// Where the words of the places stand in the tables.
+// Where the words of the sites stand in the tables.
 pub fn grade_words() -> usize
     ensures { λ r. ⌜ r ≡ gradeOf 0 ⌝ }
 {
     GRADE
 }
 
-// How many faults of a place count, by its word.
+// How many faults of a site count, by its word.
 fn faults_at(word: u32) -> usize
     ensures { λ r. ⌜ r ≡ 2 * choose (eqb word 1) 1 0 ⌝ }
 {
@@ -167,13 +176,13 @@ fn faults_at(word: u32) -> usize
 
 // How many faults count in the grade.
 pub fn total(c: Counts, tables: &[u32]) -> usize
-    requires { ⌜ (39968 ≤ length (now tables)) × (c .nodes + c .graphs ≤ 5120) ⌝ }
+    requires { ⌜ (tablesLength ≤ length (now tables)) × (c .nodes + c .graphs ≤ maxSites) ⌝ }
     ensures { λ r. ⌜ ((ws : List ℕ) → Tabled ws c (now (tables .entry)) → r ≡ total ws c) ⌝ }
 {
-    let places = c.nodes + c.graphs;
+    let sites = c.nodes + c.graphs;
     let mut n = 0;
     let mut p = 0;
-    while p < places {
+    while p < sites {
         n += faults_at(lists::get(tables, GRADE + p));
         p += 1;
     }
@@ -191,6 +200,6 @@ pub fn make_tables(card: &[u32], c: Counts) -> Tables
     let mut tables = empty_tables();
     note_readers(card, c, &firsts, &mut tables);
     layout::first_nodes(card, c, &mut tables);
-    grade_places(card, c, &mut tables);
+    grade_sites(card, c, &mut tables);
     tables
 }

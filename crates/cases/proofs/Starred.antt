@@ -3,11 +3,11 @@ use mathlib.Core.Path.{refl}
 use mathlib.Mathlib.Data.List.Defs.{Forall}
 use Rattle.lists.specs.Tables.{chosen}
 use Rattle.form.specs.Check.{checkedWith}
-use Rattle.answers.specs.Answers.{answerTold, replyTold}
-use Rattle.answers.specs.Calls.{replied, written}
+use Rattle.answers.specs.Calls.{following, outcome}
+use Rattle.answers.specs.Told.{replyTold}
 use Rattle.layout.specs.Layout.{isInput, observable, size, reads, exits, decides}
 use Rattle.cardtables.specs.Stems.{total}
-use Rattle.testvectors.specs.Vectors.{bit, vectorVerdict, listVerdict}
+use Rattle.testvectors.specs.Vectors.{bit, vectorVerdict, listVerdict, lentForm}
 use Rattle.value.specs.Settings.{faulty}
 use Rattle.value.specs.Values.{value}
 use Rattle.detect.specs.Detects.{changes, criticalAt}
@@ -27,31 +27,32 @@ abbrev _also_ : {A B : Type 0} → A → B → A × B
 a also b = (a, b)
 
 pub starred-hold : Starred
-unfolding checkedWith answerTold replyTold replied written goodTests changeTests criticalTests gradeTests vectorVerdict listVerdict
+unfolding checkedWith outcome following lentForm goodTests changeTests criticalTests gradeTests vectorVerdict listVerdict
     isInput observable size reads exits decides bit faulty chosen changes criticalAt total mark marked criticalNode Forall
 starred-hold =
     (refl, refl, refl, refl, refl, refl, refl, refl)
     also (refl, refl, refl, refl, refl, refl, refl, refl)
     also (refl, refl, refl)
     also (refl, refl, refl, refl, refl, refl, refl, refl)
-    also (refl, refl, refl, refl, refl, refl, refl, refl, refl)
-    also (refl, refl, refl, refl, refl, refl, refl, refl, refl)
+    also (refl, refl, refl, refl, refl, refl, refl)
+    also (refl, refl, refl, refl, refl, refl, refl)
     also (refl, refl, refl)
     also (refl, refl, refl, refl, refl, refl, refl, refl)
-    also (refl, refl, refl, refl, refl, refl, refl, refl, refl)
+    also (refl, refl, refl, refl, refl, refl, refl)
 
 pub leads-hold : Leads
-unfolding checkedWith answerTold replyTold replied written goodTests changeTests criticalTests gradeTests vectorVerdict listVerdict
+unfolding checkedWith outcome following lentForm goodTests changeTests criticalTests gradeTests vectorVerdict listVerdict
     isInput observable size reads exits decides bit faulty chosen changes criticalAt total mark marked criticalNode Forall
 leads-hold =
-    (refl, refl, refl, refl, refl, refl, refl, refl, refl)
-    also (refl, refl, refl, refl, refl, refl, refl, refl, refl)
-    also (refl, refl, refl, refl, refl, refl, refl, refl, refl)
-    also (refl, refl, refl, refl, refl, refl, refl, refl, refl)
-    also (refl, refl, refl, refl, refl, refl, refl, refl, refl)
+    (refl, refl, refl, refl, refl, refl, refl)
+    also (refl, refl, refl, refl, refl, refl, refl)
+    also (refl, refl, refl, refl, refl, refl, refl)
+    also (refl, refl, refl, refl, refl, refl, refl)
+    also (refl, refl, refl, refl, refl, refl, refl)
 
 pub several-hold : Several
-unfolding checkedWith answerTold replyTold replied written faultTests vectorVerdict isInput observable size reads exits decides bit faulty value Forall
+unfolding checkedWith outcome following lentForm replyTold faultTests vectorVerdict isInput observable size reads exits decides bit faulty value Forall
 several-hold =
     (refl, refl) also (refl, refl) also (refl, refl) also (refl, refl) also (refl, refl) also (refl, refl) also (refl, refl) also (refl, refl) also (refl, refl)
-    also (refl, refl) also refl also refl also refl also refl also refl also refl also refl also refl also refl
+    also (refl, refl) also (refl, refl) also (refl, refl) also (refl, refl) also (refl, refl) also (refl, refl) also (refl, refl) also (refl, refl) also (refl, refl)
+    also (refl, refl)

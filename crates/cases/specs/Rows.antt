@@ -1,25 +1,28 @@
--- What a row of a table of cases says: what the calls tell and leave in a lent buffer, by the definitions that their own contracts cite; and of a
--- case and of a grading the same by the marking rules of document 01. Assumes nothing.
+-- What a row of a table of cases says: what the calls come to, by the definitions that their own contracts cite; and of a case and of a grading the same
+-- by the marking rules of document 01. Assumes nothing.
 use Prim.Native.Nat.{ℕ, _+_, _-_, _*_, _/_, _%_}
 use mathlib.Core.Path.{_≡_}
 use mathlib.Core.List.{List, [], _∷_, map}
 use mathlib.Core.Bool.{Bool, not, _&&_, _||_}
-use lib.ListN.{length, replicate}
+use lib.ListN.{length}
 use lib.Dec.{ltb, leb, eqb}
-use Rattle.lists.specs.Counting.{choose, some-below, count}
-use Rattle.lists.specs.Tables.{at, tab, chosen, front}
+use Rattle.lists.specs.Counting.{choose}
+use Rattle.lists.specs.Tables.{at, tab, chosen}
 use Rattle.answers.specs.declared.Counts.{Counts}
-use Rattle.answers.specs.Answers.{Told, result, refusal, valuesOf}
-use Rattle.form.specs.Check.{checkTold}
+use Rattle.answers.specs.declared.Answer.the-variants.{Accepted}
+use Rattle.answers.specs.declared.Reply.the-variants.{Done}
+use Rattle.answers.specs.Calls.{whole, Outcome}
+use Rattle.answers.specs.Told.{Told, refusal, replyTold}
+use Rattle.form.specs.Check.{checked}
 use Rattle.layout.specs.Layout.{first, standsIn}
 use Rattle.cardtables.specs.Stems.{inGrade, total}
 use Rattle.testvectors.specs.Vectors.{bit, vectors, vector}
-use Rattle.plain.specs.Calls.{goodTold, goodBuffer, faultTold, faultBuffer}
+use Rattle.plain.specs.Calls.{goodOutcome, faultOutcome}
 use Rattle.detect.specs.Detects.{detects}
-use Rattle.detect.specs.Grading.{markBy}
+use Rattle.detect.specs.Relation.{tallyOf, markOf, markedOf}
 use Rattle.rules.specs.Rules.{listed, criticalNode, marksNode, marksGraph}
-use Rattle.changes.specs.Calls.{changeTold, changeBuffer, criticalTold, criticalBuffer}
-use Rattle.grade.specs.Calls.{gradeTold, marksBuffer, talliesBuffer}
+use Rattle.changes.specs.Calls.{changeOutcome, criticalOutcome}
+use Rattle.grade.specs.Calls.{gradeOutcome}
 
 -- a card under one vector: the graphs' values, the change list of each graph, the faults caught, and for each node 1 where it is critical, else 0
 pub record Case : Type 0 where
@@ -82,17 +85,12 @@ numbers n = tab (λ i. i) n
 abbrev pub flag : Bool → ℕ
 flag b = choose b 1 0
 
--- a lent buffer of n words, each 5 before the call
-abbrev pub lent : ℕ → List ℕ
-lent n = replicate n 5
+-- a call that is done, tells the number and gives its buffers the words ws and vs
+abbrev pub doneBoth : ℕ → List ℕ → List ℕ → Outcome
+doneBoth number ws vs = record { reply = Done number; words = ws; more = vs }
 
--- a call with such a buffer: what it tells, and the buffer after it
-abbrev pub call : (List ℕ → Told) → (List ℕ → List ℕ) → ℕ → Told × List ℕ
-call told buffer n = (told (lent n), buffer (lent n))
-
--- the same of a call that is done, tells the number and leaves the words ws
-abbrev pub done : ℕ → List ℕ → ℕ → Told × List ℕ
-done number ws n = (result (number ∷ []), front ws (lent n))
+abbrev pub done : ℕ → List ℕ → Outcome
+done number ws = doneBoth number ws []
 
 -- the graph in which node j stands, and its local number there
 module _ (ws : List ℕ) (c : Counts) where
@@ -123,17 +121,16 @@ CaseHolds r =
     let x = r .under in
     let G = c .graphs in
     let N = c .nodes in
-    (checkTold ws ≡ result (valuesOf c))
-    × (call (goodTold ws x) (goodBuffer ws x) G ≡ done 0 (r .values) G)
-    × (map (λ g. call (changeTold ws x g) (changeBuffer ws x g) G) (numbers G) ≡ map (λ l. done (length l) l G) (r .changes))
-    × (call (criticalTold ws x) (criticalBuffer ws x) N ≡ done 0 (r .critical) N)
+    (checked ws ≡ Accepted c)
+    × (goodOutcome (whole ws) (whole x) G ≡ done 0 (r .values))
+    × (map (λ g. changeOutcome (whole ws) (whole x) g G) (numbers G) ≡ map (λ l. done (length l) l) (r .changes))
+    × (criticalOutcome (whole ws) (whole x) N ≡ done 0 (r .critical))
     × (chosen (detects ws c x) (c .faults) ≡ r .caught)
     × (map (byRule2 ws c x) (numbers G) ≡ r .changes)
     × (tab (λ j. flag (byRule4 ws c x j)) N ≡ r .critical)
     × (chosen (byRule5 ws c x) (c .faults) ≡ r .caught)
 
--- a grading holds by the check, by the call, by which faults count, and by rule 5 over its n vectors: the marked count, each fault's first vector and
--- its tally
+-- a grading holds by the check, by the call, by which faults count, and by rule 5 over its n vectors: the marked count, each mark and each tally
 abbrev pub GradingHolds : Grading → Type 0
 GradingHolds r =
     let ws = r .card in
@@ -141,27 +138,23 @@ GradingHolds r =
     let xs = r .under in
     let F = c .faults in
     let n = vectors (c .inputs) xs in
-    let b = lent F in
-    let d = lent (F + 1) in
     let marks : ℕ → ℕ → Bool = λ f t. byRule5 ws c (vector (c .inputs) xs t) f in
-    (checkTold ws ≡ result (valuesOf c))
-    × (gradeTold ws xs b d ≡ result (r .marked ∷ []))
-    × (marksBuffer ws xs b d ≡ front (r .marks) b)
-    × (talliesBuffer ws xs b d ≡ front (r .tallies) d)
+    (checked ws ≡ Accepted c)
+    × (gradeOutcome (whole ws) (whole xs) F (F + 1) ≡ doneBoth (r .marked) (r .marks) (r .tallies))
     × (total ws c ≡ r .total)
     × (chosen (λ f. not (inGrade ws c f)) F ≡ r .leftOut)
-    × (count (λ f. inGrade ws c f && some-below (marks f) n) F ≡ r .marked)
-    × (tab (λ f. markBy (marks f) n) F ≡ r .marks)
-    × (tab (λ f. count (marks f) n) F ≡ r .tallies)
+    × (markedOf marks (inGrade ws c) n F ≡ r .marked)
+    × (tab (markOf marks n) F ≡ r .marks)
+    × (tab (tallyOf marks n) F ≡ r .tallies)
 
 -- a function holds by the check and by the call for good values
 abbrev pub FunctionHolds : Function → Type 0
 FunctionHolds r =
     let ws = r .card in
     let G = r .counts .graphs in
-    (checkTold ws ≡ result (valuesOf (r .counts)))
-    × (map (λ x. goodTold ws x (lent G)) (r .under) ≡ map (λ x. result (0 ∷ [])) (r .under))
-    × (map (λ x. at (goodBuffer ws x (lent G)) (r .graph)) (r .under) ≡ map (λ x. flag (r .computes (λ i. eqb (bit x i) 1))) (r .under))
+    (checked ws ≡ Accepted (r .counts))
+    × (map (λ x. goodOutcome (whole ws) (whole x) G .reply) (r .under) ≡ map (λ x. Done 0) (r .under))
+    × (map (λ x. at (goodOutcome (whole ws) (whole x) G .words) (r .graph)) (r .under) ≡ map (λ x. flag (r .computes (λ i. eqb (bit x i) 1))) (r .under))
 
 -- values with faults hold by the check and by the call, whose buffer has a word more than it needs
 abbrev pub FaultedHolds : Faulted → Type 0
@@ -169,16 +162,14 @@ FaultedHolds r =
     let ws = r .card in
     let x = r .under in
     let n = r .counts .graphs + 1 in
-    (checkTold ws ≡ result (valuesOf (r .counts)))
-    × (call (faultTold ws x (r .faults)) (faultBuffer ws x (r .faults)) n ≡ done 0 (r .values) n)
+    (checked ws ≡ Accepted (r .counts))
+    × (faultOutcome (whole ws) (whole x) (whole (r .faults)) n ≡ done 0 (r .values))
 
--- a refusal holds by the call, which leaves its buffer as it was
+-- a refusal holds by the call, which gives its buffer no word
 abbrev pub RefusedHolds : Refused → Type 0
 RefusedHolds r =
-    let ws = r .card in
-    let x = r .under in
-    let n = r .room in
-    call (faultTold ws x (r .faults)) (faultBuffer ws x (r .faults)) n ≡ (refusal (r .number) 0, lent n)
+    let o = faultOutcome (whole (r .card)) (whole (r .under)) (whole (r .faults)) (r .room) in
+    (replyTold (o .reply) ≡ refusal (r .number) 0) × (o .words ≡ [])
 
 -- WHAT A ROW SAYS
 abbrev pub Holds : Row → Type 0

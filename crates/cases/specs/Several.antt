@@ -46,7 +46,7 @@ several =
     ∷ with-in wide countsWide 0xA0000000 (3 ∷ 5 ∷ 7 ∷ 9 ∷ 11 ∷ 13 ∷ 15 ∷ 17 ∷ []) (1 ∷ 1 ∷ 1 ∷ 1 ∷ 1 ∷ 1 ∷ 1 ∷ 1 ∷ 1 ∷ [])
     ∷ refused-by wide 17 (3 ∷ 5 ∷ 7 ∷ 9 ∷ 11 ∷ 13 ∷ 15 ∷ 17 ∷ 19 ∷ []) 9
     ∷ refused-by wide 11 (3 ∷ 5 ∷ 7 ∷ 9 ∷ 11 ∷ 13 ∷ 15 ∷ 17 ∷ 20 ∷ []) 9
-    -- one place twice: a node's at both values and at one, a graph's
+    -- one site twice: a node's at both values and at one, a graph's
     ∷ refused-by S 17 (0 ∷ 1 ∷ []) 3
     ∷ refused-by S 17 (1 ∷ 4 ∷ 1 ∷ []) 3
     ∷ refused-by S 17 (7 ∷ 6 ∷ []) 3

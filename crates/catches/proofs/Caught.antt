@@ -15,10 +15,10 @@ use Rattle.detect.specs.Detects.{goodValue, criticalAt}
 use Rattle.layout.proofs.Stands.{owner}
 use Rattle.rules.specs.Rules.{critical, criticalNode}
 use Rattle.rules.proofs.Changes.{good-bit}
-use Rattle.rules.proofs.Told.{graph-told, node-told, critical-told}
+use Rattle.rules.proofs.ByRules.{graph-told, node-told, critical-told}
 use Rattle.catches.specs.Caught.{caughtAt}
 
--- of a critical place the fault at the opposite of what it has is caught, of any other neither
+-- of a critical site the fault at the opposite of what it has is caught, of any other neither
 one-caught : (b : Bool) (d : ℕ) → d < 2 → choose (b && not (eqb 0 d)) 0 (choose (b && not (eqb 1 d)) 1 2) ≡ choose b (1 - d) 2
 one-caught true zero h = refl
 one-caught true (suc zero) h = refl

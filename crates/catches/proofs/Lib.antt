@@ -1,7 +1,7 @@
--- The active path, what is caught at each place, what the buffer tells, and the steps of the functions.
+-- The active path, what is caught at each site, what the buffer tells, and the steps of the functions.
 
-pub mod Due
+pub mod ActivePath
 pub mod Caught
-pub mod Told
+pub mod Detections
 mod Words
 mod Steps

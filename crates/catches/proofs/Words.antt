@@ -11,9 +11,9 @@ use Rattle.layout.specs.Layout.{first, size}
 use Rattle.layout.specs.Shape.{Shape}
 use Rattle.layout.proofs.Firsts.{apart, first-few, node-below}
 use Rattle.layout.specs.Tables.{Ready}
-use Rattle.layout.proofs.Places.{walkable, size-is}
+use Rattle.layout.proofs.NodeNumbers.{walkable, size-is}
 use Rattle.catches.specs.Caught.{caughtAt}
-use Rattle.catches.specs.Told.{Told}
+use Rattle.catches.specs.Detections.{Detections}
 use Rattle.catches.specs.Words.{Cleared, Along}
 
 -- a run of words that become 2, one by one
@@ -32,11 +32,11 @@ clear-more {a} {b} {xs} {ys} s l m z = rw z (record {
 
 module _ {ws : List ℕ} {c : Counts} {g : ℕ} where
   -- the nodes of a graph, as the table of first nodes gives them
-  pub nodes-inside : {firsts : List ℕ} → Ready ws c firsts → g < c .graphs → (getD firsts g 0 ≤ getD firsts (g + 1) 0) × (getD firsts (g + 1) 0 ≤ c .nodes)
+  pub nodes-inside : {tables : List ℕ} → Ready ws c tables → g < c .graphs → (getD tables g 0 ≤ getD tables (g + 1) 0) × (getD tables (g + 1) 0 ≤ c .nodes)
   nodes-inside y h = (omega (arith, size-is (walkable y h) refl refl), rw (y .table (g + 1) (omega arith)) (first-few (y .shape) (g + 1) (omega arith)))
 
-  pub nodes-cleared : {x firsts xs ys : List ℕ} → Ready ws c firsts → g < c .graphs → Cleared (getD firsts g 0) (getD firsts (g + 1) 0) xs ys → Along ws c x g 0 xs ys
-  nodes-cleared {x} {firsts} {xs} {ys} y h s =
+  pub nodes-cleared : {x tables xs ys : List ℕ} → Ready ws c tables → g < c .graphs → Cleared (getD tables g 0) (getD tables (g + 1) 0) xs ys → Along ws c x g 0 xs ys
+  nodes-cleared {x} {tables} {xs} {ys} y h s =
       let z = walkable y h .here in
       let m = walkable y h .next in
       record {
@@ -84,9 +84,9 @@ module _ {ws : List ℕ} {c : Counts} {x : List ℕ} {g : ℕ} where
   along-then s r = record { long = r .long ∙ s .long; below = r .below; onward = r .onward; outside = λ j n. r .outside j n ∙ s .outside j n }
 
 -- the graph's own word, after those of its nodes, and the graphs above it
-pub told-more : {ws : List ℕ} {c : Counts} → Shape ws c → {x xs ys zs : List ℕ} {g u : ℕ} → g < c .graphs → Told ws c x (g + 1) xs → Along ws c x g (size ws g) xs ys
-    → zs ≡ set ys (c .nodes + g) u → u ≡ caughtAt ws c x (c .nodes + g) → Told ws c x g zs
-told-more {ws} {c} a {x} {xs} {ys} {zs} {g} {u} h t s z e = rw z (record {
+pub detections-more : {ws : List ℕ} {c : Counts} → Shape ws c → {x xs ys zs : List ℕ} {g u : ℕ} → g < c .graphs → Detections ws c x (g + 1) xs → Along ws c x g (size ws g) xs ys
+    → zs ≡ set ys (c .nodes + g) u → u ≡ caughtAt ws c x (c .nodes + g) → Detections ws c x g zs
+detections-more {ws} {c} a {x} {xs} {ys} {zs} {g} {u} h t s z e = rw z (record {
   long = simp length-set (omega (arith, t .long, s .long));
   nodes = λ i k p r q.
       getD-set-other ys (c .nodes + g) (first ws i + k) u 0 (λ o. omega (arith, node-below a i k r q))
@@ -102,5 +102,5 @@ told-more {ws} {c} a {x} {xs} {ys} {zs} {g} {u} h t s z e = rw z (record {
   ];
 })
 
-pub told-none : {ws : List ℕ} {c : Counts} {x xs : List ℕ} → c .nodes + c .graphs ≤ length xs → Told ws c x (c .graphs) xs
-told-none l = record { long = l; nodes = λ g k p h i. absurd (omega arith); graphs = λ g p h. absurd (omega arith) }
+pub detections-none : {ws : List ℕ} {c : Counts} {x xs : List ℕ} → c .nodes + c .graphs ≤ length xs → Detections ws c x (c .graphs) xs
+detections-none l = record { long = l; nodes = λ g k p h i. absurd (omega arith); graphs = λ g p h. absurd (omega arith) }

@@ -1,5 +1,5 @@
 pub mod Caught
-pub mod Due
-pub mod Told
+pub mod ActivePath
+pub mod Detections
 pub mod Words
 pub mod Good

@@ -1,4 +1,4 @@
-// What one vector catches, by the marking rules: for each place the value at which it is stuck in the fault that is caught there, or 2.
+// What one vector catches, by the marking rules: for each site the value at which it is stuck in the fault that is caught there, or 2.
 ghost use mathlib.Core.Path.{_≡_};
 ghost use mathlib.Core.List.{List};
 ghost use mathlib.Core.Bool.{true, not};
@@ -16,9 +16,10 @@ ghost use Rattle.value.specs.Values.{follow, value};
 ghost use Rattle.rules.specs.Rules.{critical};
 ghost use Rattle.sweep.specs.Swept.{Swept};
 ghost use Rattle.change.specs.Flips.{Has};
+ghost use Rattle.critical.specs.Walking.{walkLength};
 ghost use Rattle.catches.specs.Good.{Bits, Caught};
 ghost use Rattle.catches.specs.Words.{Cleared, Along};
-ghost use Rattle.catches.specs.Told.{Told, Room};
+ghost use Rattle.catches.specs.Detections.{Detections, Room};
 use answers::Counts;
 
 // What is caught at node j, of graph g, where the node is active and the graph critical: rules 4 and 5. Its decision is d, and its graph's first node `first`.
@@ -37,13 +38,13 @@ fn caught_there(card: &[u32], values: &[u32], g: usize, first: usize, j: usize, 
 }
 
 // The active path of graph g, which is critical and whose words are 2: the nodes that the path meets get what is caught there.
-fn catch_path(card: &[u32], c: Counts, firsts: &[u32], values: &[u32], g: usize, caught: &mut [u32])
-    requires { ⌜ Ready (now card) c (now firsts) × Bits c (now values) × (g < c .graphs) × (0 < size (now card) g) × (c .nodes ≤ length (now caught)) ⌝ }
+fn catch_path(card: &[u32], c: Counts, tables: &[u32], values: &[u32], g: usize, caught: &mut [u32])
+    requires { ⌜ Ready (now card) c (now tables) × Bits c (now values) × (g < c .graphs) × (0 < size (now card) g) × (c .nodes ≤ length (now caught)) ⌝ }
     ensures { λ _. ⌜ ((x : List ℕ) → Swept (now (card .entry)) c x (c .graphs) (now (values .entry)) → critical (now (card .entry)) c x g ≡ true
         → Along (now (card .entry)) c x g 0 (now (caught .entry)) (now (caught .entry))
         → Along (now (card .entry)) c x g (size (now (card .entry)) g) (now (caught .entry)) (now (caught .exit))) ⌝ }
 {
-    let first = layout::first_node(firsts, g);
+    let first = layout::first_node(tables, g);
     let mut k = 0;
     loop {
         let j = first + k;
@@ -58,7 +59,7 @@ fn catch_path(card: &[u32], c: Counts, firsts: &[u32], values: &[u32], g: usize,
     }
 }
 
-// The words from one place on, up to another, become 2: nothing is caught there.
+// The words from one site on, up to another, become 2: nothing is caught there.
 fn clear(caught: &mut [u32], from: usize, to: usize)
     requires { ⌜ (from ≤ to) × (to ≤ length (now caught)) ⌝ }
     ensures { λ _. ⌜ Cleared from to (now (caught .entry)) (now (caught .exit)) ⌝ }
@@ -71,12 +72,12 @@ fn clear(caught: &mut [u32], from: usize, to: usize)
 }
 
 // The words of all nodes of graph g become 2.
-fn clear_nodes(firsts: &[u32], g: usize, caught: &mut [u32])
-    requires { ⌜ (g + 1 < length (now firsts)) × (getD (now firsts) g 0 ≤ getD (now firsts) (g + 1) 0) × (getD (now firsts) (g + 1) 0 ≤ length (now caught)) ⌝ }
-    ensures { λ _. ⌜ Cleared (getD (now (firsts .entry)) g 0) (getD (now (firsts .entry)) (g + 1) 0) (now (caught .entry)) (now (caught .exit)) ⌝ }
+fn clear_nodes(tables: &[u32], g: usize, caught: &mut [u32])
+    requires { ⌜ (g + 1 < length (now tables)) × (getD (now tables) g 0 ≤ getD (now tables) (g + 1) 0) × (getD (now tables) (g + 1) 0 ≤ length (now caught)) ⌝ }
+    ensures { λ _. ⌜ Cleared (getD (now (tables .entry)) g 0) (getD (now (tables .entry)) (g + 1) 0) (now (caught .entry)) (now (caught .exit)) ⌝ }
 {
-    let first = layout::first_node(firsts, g);
-    let next = layout::first_node(firsts, g + 1);
+    let first = layout::first_node(tables, g);
+    let next = layout::first_node(tables, g + 1);
     clear(caught, first, next);
 }
 
@@ -84,24 +85,24 @@ fn clear_nodes(firsts: &[u32], g: usize, caught: &mut [u32])
 fn catch_nodes(
     card: &[u32],
     c: Counts,
-    firsts: &[u32],
+    tables: &[u32],
     values: &[u32],
     g: usize,
     alters: bool,
     caught: &mut [u32],
 )
-    requires { ⌜ Ready (now card) c (now firsts) × Bits c (now values) × (g < c .graphs) × (c .nodes ≤ length (now caught)) ⌝ }
+    requires { ⌜ Ready (now card) c (now tables) × Bits c (now values) × (g < c .graphs) × (c .nodes ≤ length (now caught)) ⌝ }
     ensures { λ _. ⌜ ((x : List ℕ) → Swept (now (card .entry)) c x (c .graphs) (now (values .entry)) → alters ≡ critical (now (card .entry)) c x g
         → Along (now (card .entry)) c x g (size (now (card .entry)) g) (now (caught .entry)) (now (caught .exit))) ⌝ }
 {
-    clear_nodes(firsts, g, caught);
+    clear_nodes(tables, g, caught);
     if !alters {
         return;
     }
     if g < c.inputs {
         return;
     }
-    catch_path(card, c, firsts, values, g, caught);
+    catch_path(card, c, tables, values, g, caught);
 }
 
 // What is caught at a graph of value v.
@@ -125,7 +126,7 @@ fn is_altering(
     walk: &mut [u32],
     caught: &[u32],
 ) -> bool
-    requires { ⌜ Tabled (now card) c (now tables) × (c .nodes + c .graphs ≤ length (now values)) × (g < c .graphs) × (2080 ≤ length (now walk)) × (getD (now walk) g 0 < 2)
+    requires { ⌜ Tabled (now card) c (now tables) × (c .nodes + c .graphs ≤ length (now values)) × (g < c .graphs) × (walkLength ≤ length (now walk)) × (getD (now walk) g 0 < 2)
         × (c .nodes ≤ length (now caught)) ⌝ }
     ensures { λ r. ⌜ ((x : List ℕ) → Swept (now (card .entry)) c x (c .graphs) (now (values .entry)) → Caught (now (card .entry)) c x (g + 1) (now (walk .entry)) (now (caught .entry))
         → (r ≡ critical (now (card .entry)) c x g) × Has (value (now (card .entry)) c good x) (c .graphs) (now (walk .exit))) ⌝ }
@@ -150,7 +151,7 @@ fn catch_graph(
     walk: &mut [u32],
     caught: &mut [u32],
 )
-    requires { ⌜ Tabled (now card) c (now tables) × Bits c (now values) × (g < c .graphs) × (2080 ≤ length (now walk)) × (getD (now walk) g 0 < 2)
+    requires { ⌜ Tabled (now card) c (now tables) × Bits c (now values) × (g < c .graphs) × (walkLength ≤ length (now walk)) × (getD (now walk) g 0 < 2)
         × (c .nodes + c .graphs ≤ length (now caught)) ⌝ }
     ensures { λ _. ⌜ ((x : List ℕ) → Swept (now (card .entry)) c x (c .graphs) (now (values .entry)) → Caught (now (card .entry)) c x (g + 1) (now (walk .entry)) (now (caught .entry))
         → Caught (now (card .entry)) c x g (now (walk .exit)) (now (caught .exit))) ⌝ }
@@ -172,10 +173,10 @@ pub fn catch_vector(
     caught: &mut [u32],
 )
     requires { ⌜ Tabled (now card) c (now tables) × (width (c .inputs) ≤ length (now vector)) × Room c (now values) (now walk) (now caught) ⌝ }
-    ensures { λ _. ⌜ Told (now (card .entry)) c (now (vector .entry)) 0 (now (caught .exit)) ⌝ }
+    ensures { λ _. ⌜ Detections (now (card .entry)) c (now (vector .entry)) 0 (now (caught .exit)) ⌝ }
 {
     sweep::sweep(card, c, tables, vector, values);
-    change::restore(c, values, walk);
+    change::copy_values(c, values, walk);
     let mut g = c.graphs;
     while 0 < g {
         g -= 1;

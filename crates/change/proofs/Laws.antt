@@ -13,7 +13,7 @@ use Rattle.answers.specs.declared.Counts.{Counts}
 use Rattle.layout.specs.Layout.{size, reads}
 use Rattle.layout.specs.Shape.{Shape}
 use Rattle.layout.specs.Tables.{Decided, Walkable}
-use Rattle.layout.proofs.Places.{decision-is, exit-later}
+use Rattle.layout.proofs.NodeNumbers.{decision-is, exit-later}
 use Rattle.value.specs.Settings.{good}
 use Rattle.value.specs.Values.{follow, walk, taken, graph, value}
 use Rattle.value.proofs.Settings.{good-keeps}
@@ -114,9 +114,9 @@ pub flip-ends : {w v : ℕ → ℕ} {n h : ℕ} {xs : List ℕ} → Between w v 
 flip-ends s l = record { long = s .long; word = λ i a. s .below i (omega arith) a }
 
 -- the good values from a sweep
-pub restored : {ws x values flips : List ℕ} {c : Counts} (ys : List ℕ) → Swept ws c x (c .graphs) values → c .graphs ≤ length ys
+pub values-copied : {ws x values flips : List ℕ} {c : Counts} (ys : List ℕ) → Swept ws c x (c .graphs) values → c .graphs ≤ length ys
     → flips ≡ over (c .graphs) (λ h. getD values (c .nodes + h) 0) ys → Has (value ws c good x) (c .graphs) flips
-restored {ws} {x} {values} {flips} {c} ys s l e = rw e record {
+values-copied {ws} {x} {values} {flips} {c} ys s l e = rw e record {
   long = rw (length-over (λ h. getD values (c .nodes + h) 0) ys (c .graphs) l) l;
   word = λ h i. over-at (λ h. getD values (c .nodes + h) 0) ys (c .graphs) h i ∙ s .graphs h i;
 }

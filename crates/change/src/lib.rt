@@ -58,8 +58,8 @@ pub fn change(card: &[u32], c: Counts, firsts: &[u32], g: usize, flips: &mut [u3
     }
 }
 
-// The values of the graphs again, from those of all places.
-pub fn restore(c: Counts, values: &[u32], flips: &mut [u32])
+// The values of the graphs, from those of all sites.
+pub fn copy_values(c: Counts, values: &[u32], flips: &mut [u32])
     requires { ⌜ (c .nodes + c .graphs ≤ length (now values)) × (c .graphs ≤ length (now flips)) ⌝ }
     ensures { λ _. ⌜ now (flips .exit) ≡ over (c .graphs) (λ h. getD (now (values .entry)) (c .nodes + h) 0) (now (flips .entry)) ⌝ }
 {

@@ -1,4 +1,3 @@
 -- What passed tests tell, and lists that grow.
 
 pub mod Laws
-pub mod Old

@@ -1,27 +1,30 @@
 // What changes under one vector: change lists and critical nodes, by the marking rules.
 ghost use mathlib.Core.Path.{_≡_};
 ghost use mathlib.Core.Bool.{not};
-ghost use Prim.Native.Nat.{_+_, _≤_, _<_};
+ghost use Prim.Native.Nat.{_+_, _≤_, _<_, min};
 ghost use lib.ListN.{length, getD};
 ghost use lib.Dec.{ltb, eqb};
 ghost use Rattle.lists.specs.Counting.{choose, count};
 ghost use Rattle.lists.specs.Tables.{over, chosen, front};
-ghost use Rattle.answers.specs.Answers.{replyTold};
+ghost use Rattle.answers.specs.Limits.{maxGraphs, maxNodes};
 ghost use Rattle.answers.specs.Tests.{firstBroken};
 ghost use Rattle.layout.specs.Shape.{Shape};
 ghost use Rattle.testvectors.specs.Vectors.{width};
 ghost use Rattle.detect.specs.Detects.{changes, criticalAt};
-ghost use Rattle.changes.specs.Calls.{changeTests, changeTold, changeBuffer, criticalTests, criticalTold, criticalBuffer};
+ghost use Rattle.answers.specs.Calls.{lent, whole, ByWords};
+ghost use Rattle.answers.specs.Ends.{EndsAs};
+ghost use Rattle.changes.specs.Calls.{changeTests, changeOutcome, criticalTests, criticalOutcome};
 ghost use Rattle.changes.specs.Appended.{Appended};
 use answers::Answer;
 use answers::Counts;
+use answers::Ended;
 use answers::Reply;
 use answers::Rule;
 use answers::Verdict;
 
 // Number h follows the n numbers at the front of a list, if it is to.
 fn append(list: &mut [u32], n: usize, h: usize, differs: bool) -> usize
-    requires { ⌜ (n < length (now list)) × (h ≤ 1024) ⌝ }
+    requires { ⌜ (n < length (now list)) × (h ≤ maxGraphs) ⌝ }
     ensures { λ r. ⌜ Appended (now (list .entry)) n h differs r (now (list .exit)) ⌝ }
 {
     if differs {
@@ -31,9 +34,9 @@ fn append(list: &mut [u32], n: usize, h: usize, differs: bool) -> usize
     n
 }
 
-// The graphs whose words differ from those of their places among the values, in the front of the list; and how many they are.
+// The graphs whose words differ from those of their sites among the values, in the front of the list; and how many they are.
 fn list_changes(c: Counts, values: &[u32], flips: &[u32], list: &mut [u32]) -> usize
-    requires { ⌜ (c .graphs ≤ 1024) × (c .nodes + c .graphs ≤ length (now values)) × (c .graphs ≤ length (now flips)) × (c .graphs ≤ length (now list)) ⌝ }
+    requires { ⌜ (c .graphs ≤ maxGraphs) × (c .nodes + c .graphs ≤ length (now values)) × (c .graphs ≤ length (now flips)) × (c .graphs ≤ length (now list)) ⌝ }
     ensures { λ r. ⌜ (r ≡ count (λ h. not (eqb (getD (now (flips .entry)) h 0) (getD (now (values .entry)) (c .nodes + h) 0))) (c .graphs))
         × (now (list .exit) ≡ front (chosen (λ h. not (eqb (getD (now (flips .entry)) h 0) (getD (now (values .entry)) (c .nodes + h) 0))) (c .graphs)) (now (list .entry))) ⌝ }
 {
@@ -65,10 +68,10 @@ pub fn work_out_changes(
 {
     let mut firsts = layout::first_table();
     layout::first_nodes(card, c, &mut firsts);
-    let mut values = layout::place_table();
+    let mut values = layout::site_table();
     sweep::sweep(card, c, &firsts, vector, &mut values);
     let mut flips = layout::graph_table();
-    change::restore(c, &values, &mut flips);
+    change::copy_values(c, &values, &mut flips);
     change::change(card, c, &firsts, g, &mut flips);
     list_changes(c, &values, &flips, list)
 }
@@ -86,23 +89,54 @@ pub fn test_change(c: Counts, graph: u32, room: usize) -> Verdict
     Verdict::Sound
 }
 
-// The change list of a graph: its length, and the numbers rising in the front of the buffer.
-pub fn change_list(card: &[u32], vector: &[u32], graph: u32, list: &mut [u32]) -> Reply
-    ensures { λ r. ⌜ (replyTold r ≡ changeTold (now (card .entry)) (now (vector .entry)) graph (now (list .entry)))
-        × (now (list .exit) ≡ changeBuffer (now (card .entry)) (now (vector .entry)) graph (now (list .entry))) ⌝ }
+// The change list of a graph: its length, and the numbers rising in the front of `list`, for a buffer of `room` words.
+pub fn change_list_with(
+    card: &[u32],
+    extra: usize,
+    vector: &[u32],
+    left: usize,
+    graph: u32,
+    room: usize,
+    list: &mut [u32],
+) -> Ended
+    requires { ⌜ min room maxGraphs ≤ length (now list) ⌝ }
+    ensures { λ r. ⌜ EndsAs (changeOutcome (lent (now (card .entry)) extra) (lent (now (vector .entry)) left) graph room)
+        room r (now (list .entry)) (now (list .exit)) ⌝ }
 {
-    match opening::open_vector(card, vector) {
-        Answer::Refused(rule, position) => Reply::Refused(rule, position),
+    match opening::open_vector(card, extra, vector, left) {
+        Answer::Refused(rule, position) => Ended {
+            reply: Reply::Refused(rule, position),
+            words: 0,
+            more: 0,
+        },
         Answer::Accepted(c) => {
-            if let Verdict::Broken(rule, position) = test_change(c, graph, list.len()) {
-                return Reply::Refused(rule, position);
+            if let Verdict::Broken(rule, position) = test_change(c, graph, room) {
+                return Ended {
+                    reply: Reply::Refused(rule, position),
+                    words: 0,
+                    more: 0,
+                };
             }
-            Reply::Done(work_out_changes(card, c, vector, graph as usize, list))
+            let n = work_out_changes(card, c, vector, graph as usize, list);
+            Ended {
+                reply: Reply::Done(n),
+                words: n,
+                more: 0,
+            }
         }
     }
 }
 
-// 1 where a fault is caught at a place, else 0.
+// The same by words, for the whole of a buffer.
+pub fn change_list(card: &[u32], vector: &[u32], graph: u32, list: &mut [u32]) -> Reply
+    ensures { λ r. ⌜ ByWords (changeOutcome (whole (now (card .entry))) (whole (now (vector .entry))) graph)
+        r (now (list .entry)) (now (list .exit)) ⌝ }
+{
+    let end = change_list_with(card, 0, vector, 0, graph, list.len(), list);
+    end.reply
+}
+
+// 1 where a fault is caught at a site, else 0.
 fn is_caught(caught: u32) -> u32
     ensures { λ r. ⌜ r ≡ choose (ltb caught 2) 1 0 ⌝ }
 {
@@ -112,8 +146,8 @@ fn is_caught(caught: u32) -> u32
     0
 }
 
-// The same for the first n places, into a buffer.
-fn flag_places(caught: &[u32], n: usize, nodes: &mut [u32])
+// The same for the first n sites, into a buffer.
+fn flag_sites(caught: &[u32], n: usize, nodes: &mut [u32])
     requires { ⌜ (n ≤ length (now caught)) × (n ≤ length (now nodes)) ⌝ }
     ensures { λ _. ⌜ now (nodes .exit) ≡ over n (λ j. choose (ltb (getD (now (caught .entry)) j 0) 2) 1 0) (now (nodes .entry)) ⌝ }
 {
@@ -130,9 +164,9 @@ pub fn work_out_critical(card: &[u32], c: Counts, vector: &[u32], nodes: &mut [u
     ensures { λ _. ⌜ now (nodes .exit) ≡ over (c .nodes) (λ j. choose (criticalAt (now (card .entry)) c (now (vector .entry)) j) 1 0) (now (nodes .entry)) ⌝ }
 {
     let tables = cardtables::make_tables(card, c);
-    let mut values = layout::place_table();
+    let mut values = layout::site_table();
     let mut walk = critical::walk_room();
-    let mut caught = layout::place_table();
+    let mut caught = layout::site_table();
     catches::catch_vector(
         card,
         c,
@@ -142,7 +176,7 @@ pub fn work_out_critical(card: &[u32], c: Counts, vector: &[u32], nodes: &mut [u
         &mut walk,
         &mut caught,
     );
-    flag_places(&caught, c.nodes, nodes)
+    flag_sites(&caught, c.nodes, nodes)
 }
 
 // The tests of critical nodes after the form of their vector, for a buffer of `room` words: the room alone.
@@ -155,19 +189,48 @@ pub fn test_critical(c: Counts, room: usize) -> Verdict
     Verdict::Sound
 }
 
-// Critical nodes: one word for each node, 1 where forcing its other exit alters an observable graph, else 0.
-pub fn critical_nodes(card: &[u32], vector: &[u32], nodes: &mut [u32]) -> Reply
-    ensures { λ r. ⌜ (replyTold r ≡ criticalTold (now (card .entry)) (now (vector .entry)) (now (nodes .entry)))
-        × (now (nodes .exit) ≡ criticalBuffer (now (card .entry)) (now (vector .entry)) (now (nodes .entry))) ⌝ }
+// Critical nodes: one word for each node, 1 where forcing its other exit alters an observable graph, else 0; for a buffer of `room` words.
+pub fn critical_nodes_with(
+    card: &[u32],
+    extra: usize,
+    vector: &[u32],
+    left: usize,
+    room: usize,
+    nodes: &mut [u32],
+) -> Ended
+    requires { ⌜ min room maxNodes ≤ length (now nodes) ⌝ }
+    ensures { λ r. ⌜ EndsAs (criticalOutcome (lent (now (card .entry)) extra) (lent (now (vector .entry)) left) room)
+        room r (now (nodes .entry)) (now (nodes .exit)) ⌝ }
 {
-    match opening::open_vector(card, vector) {
-        Answer::Refused(rule, position) => Reply::Refused(rule, position),
+    match opening::open_vector(card, extra, vector, left) {
+        Answer::Refused(rule, position) => Ended {
+            reply: Reply::Refused(rule, position),
+            words: 0,
+            more: 0,
+        },
         Answer::Accepted(c) => {
-            if let Verdict::Broken(rule, position) = test_critical(c, nodes.len()) {
-                return Reply::Refused(rule, position);
+            if let Verdict::Broken(rule, position) = test_critical(c, room) {
+                return Ended {
+                    reply: Reply::Refused(rule, position),
+                    words: 0,
+                    more: 0,
+                };
             }
             work_out_critical(card, c, vector, nodes);
-            Reply::Done(0)
+            Ended {
+                reply: Reply::Done(0),
+                words: c.nodes,
+                more: 0,
+            }
         }
     }
+}
+
+// The same by words, for the whole of a buffer.
+pub fn critical_nodes(card: &[u32], vector: &[u32], nodes: &mut [u32]) -> Reply
+    ensures { λ r. ⌜ ByWords (criticalOutcome (whole (now (card .entry))) (whole (now (vector .entry))))
+        r (now (nodes .entry)) (now (nodes .exit)) ⌝ }
+{
+    let end = critical_nodes_with(card, 0, vector, 0, nodes.len(), nodes);
+    end.reply
 }

@@ -1,3 +1,3 @@
 -- What the proofs of the stopped walk cite: its end, and its steps.
-pub mod Ends
+pub mod WalkEnd
 pub mod Steps

@@ -25,8 +25,8 @@ use Rattle.rules.proofs.Changes.{flipped-below, flipped-here, good-bit}
 use Rattle.rules.proofs.Stopped.{stopped-upto, stopped-beyond}
 use Rattle.change.specs.Flips.{BitsBelow, Has}
 use Rattle.change.proofs.Laws.{flip-input, flip-output}
-use Rattle.critical.specs.Walking.{listFrom, dueFrom, Hidden, Lists, Entries, Upto, Walking, Stepped, ends}
-use Rattle.critical.proofs.Ends.{reads-good, stops}
+use Rattle.critical.specs.Walking.{listFrom, dueFrom, Hidden, Lists, Entries, Upto, Walking, Stepped, walkEnds}
+use Rattle.critical.proofs.WalkEnd.{reads-good, stops}
 
 -- a graph is listed by two stores and one set put to another
 pub list-stores : {c : Counts} {t xs ys zs us : List ℕ} (h v n : ℕ) → h < 1024 → n < 1024 → 2080 ≤ length xs → ys ≡ set xs h v → zs ≡ set ys (listFrom + n) h
@@ -63,7 +63,7 @@ entry-first {c} {t} {xs} {ys} {h} {v} l z = record {
 }
 
 -- one hidden graph more, and the first
-pub hidden-more : {ws : List ℕ} {c : Counts} {t xs ys : List ℕ} {h v n : ℕ} → Hidden ws n xs → n < 1024 → Lists c t h v n xs ys → ends ws h n (n + 1) ≡ false → Hidden ws (n + 1) ys
+pub hidden-more : {ws : List ℕ} {c : Counts} {t xs ys : List ℕ} {h v n : ℕ} → Hidden ws n xs → n < 1024 → Lists c t h v n xs ys → walkEnds ws h n (n + 1) ≡ false → Hidden ws (n + 1) ys
 hidden-more {ws} {c} {t} {xs} {ys} {h} {v} {n} s few z o = record {
   hidden = λ e b. elim (ℕ-discrete e n) [
     | yes q ↦ rw (q, z .entry) (rw (ne-eqb n (n + 1) (λ p. omega arith)) at o)
@@ -75,11 +75,11 @@ pub hidden-first : {ws : List ℕ} {c : Counts} {t xs ys : List ℕ} {h v : ℕ}
 hidden-first {ws} o z = record { hidden = λ e b. let q : e ≡ 0 = omega arith in rw (q, z .entry) o }
 
 -- whether the walk ends
-pub ends-not : (ws : List ℕ) (h n r : ℕ) → n ≡ r → false ≡ ends ws h n r
-ends-not ws h n r e = rw (eq-eqb n r e)
+pub walk-ends-not : (ws : List ℕ) (h n r : ℕ) → n ≡ r → false ≡ walkEnds ws h n r
+walk-ends-not ws h n r e = rw (eq-eqb n r e)
 
-pub ends-by : (ws : List ℕ) (h n r : ℕ) {b : Bool} → (n ≡ r → ⊥) → b ≡ observable ws h → b ≡ ends ws h n r
-ends-by ws h n r o e = rw (ne-eqb n r o) e
+pub walk-ends-by : (ws : List ℕ) (h n r : ℕ) {b : Bool} → (n ≡ r → ⊥) → b ≡ observable ws h → b ≡ walkEnds ws h n r
+walk-ends-by ws h n r o e = rw (ne-eqb n r o) e
 
 -- a graph that reads h is due once h's readers are
 is-due : {ws t : List ℕ} {c : Counts} → Tabled ws c t → (zs : List ℕ) (h j k : ℕ) → ((j : ℕ) → h ≤ j → j < c .graphs → member t (readersOf h) j ≤ member zs dueFrom j)
@@ -122,7 +122,7 @@ module _ {ws t : List ℕ} {c : Counts} (y : Tabled ws c t) (x : List ℕ) (g : 
           onward = λ i b m. other i (λ q. omega arith) m;
         };
         number = sym (sym (count-more (listed ws c x g) g true first-on) ∙ rw none-counted);
-        place = λ i b o. elim (ℕ-discrete i g) [
+        entry = λ i b o. elim (ℕ-discrete i g) [
           | yes q ↦ rw (q, none-counted) (z .entry)
           | no q ↦ absurd (true≢false (sym o ∙ none-below i (omega arith)))
         ];
@@ -171,8 +171,8 @@ module _ {ws x : List ℕ} {c : Counts} (a : Shape ws c) {g h n r : ℕ} {xs : L
             onward = λ i o j. s .upto .between .onward i (omega arith) j;
           };
           number = s .upto .number ∙ sym (count-gap (listed ws c x g) h q b (λ i o j. agree _ _ (pass i o j)));
-          place = λ i o e. elim (decLt i h) [
-            | yes k ↦ s .upto .place i k e
+          entry = λ i o e. elim (decLt i h) [
+            | yes k ↦ s .upto .entry i k e
             | no k ↦ absurd (true≢false (sym e ∙ agree _ _ (pass i (omega arith) o)))
           ];
         };
@@ -208,9 +208,9 @@ module _ {ws x t : List ℕ} {c : Counts} (y : Tabled ws c t) {g h n : ℕ} {xs 
               onward = λ i o j. s .upto .between .onward i (omega arith) j;
             };
             number = s .upto .number ∙ sym (sym (count-more (listed ws c x g) h false (agree _ _ e)) ∙ omega arith);
-            place = λ i o b. elim (ℕ-discrete i h) [
+            entry = λ i o b. elim (ℕ-discrete i h) [
               | yes k ↦ absurd (true≢false (sym b ∙ ap (listed ws c x g) k ∙ agree _ _ e))
-              | no k ↦ s .upto .place i (omega arith) b
+              | no k ↦ s .upto .entry i (omega arith) b
             ];
           };
           above = omega arith;
@@ -262,11 +262,11 @@ module _ {ws x t : List ℕ} {c : Counts} (y : Tabled ws c t) {g h n : ℕ} {xs 
               onward = λ i b j. z .off i (omega arith) (λ q. omega arith) ∙ s .upto .between .onward i (omega arith) j;
             };
             number = ap (_+ 1) (s .upto .number) ∙ count-more (listed ws c x g) h true on-list;
-            place = λ i b q. elim (ℕ-discrete i h) [
+            entry = λ i b q. elim (ℕ-discrete i h) [
               | yes k ↦ rw (k, ← s .upto .number) (z .entry)
               | no k ↦
                   let up = count-rises (listed ws c x g) i h (omega arith) q in
-                  z .entries (count (listed ws c x g) i) (omega (arith, count-le (listed ws c x g) h)) (λ f. omega (arith, s .upto .number)) ∙ s .upto .place i (omega arith) q
+                  z .entries (count (listed ws c x g) i) (omega (arith, count-le (listed ws c x g) h)) (λ f. omega (arith, s .upto .number)) ∙ s .upto .entry i (omega arith) q
             ];
           }
 

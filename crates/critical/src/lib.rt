@@ -5,35 +5,39 @@ ghost use mathlib.Core.List.{List};
 ghost use mathlib.Core.Bool.{false};
 ghost use Prim.Native.Nat.{ℕ, _+_, _≤_, _<_};
 ghost use lib.ListN.{length, getD};
+ghost use Rattle.answers.specs.Limits.{maxGraphs};
 ghost use Rattle.bitset.specs.Members.{member, Gains};
 ghost use Rattle.layout.specs.Layout.{observable};
 ghost use Rattle.layout.specs.Tables.{Walkable};
-ghost use Rattle.cardtables.specs.Tables.{readersOf, Tabled};
+ghost use Rattle.cardtables.specs.Tables.{readersOf, gradeFrom, Tabled};
 ghost use Rattle.value.specs.Settings.{good};
 ghost use Rattle.value.specs.Values.{value};
 ghost use Rattle.rules.specs.Rules.{critical};
 ghost use Rattle.sweep.specs.Swept.{Swept};
 ghost use Rattle.change.specs.Flips.{Has};
-ghost use Rattle.critical.specs.Walking.{dueFrom, Hidden, Lists, Entries, Stops, Walking, Stepped, ends, But};
+ghost use Rattle.critical.specs.Walking.{dueFrom, walkLength, Hidden, Lists, Entries, Stops, Walking, Stepped, walkEnds, But};
 use answers::Counts;
+use answers::MAX_GRAPHS;
 
 // The buffer of a walk: the graphs' values, then its list, then the set of the graphs that are due.
-pub type Walk = [u32; 2080];
+pub type Walk = [u32; WALK];
 
-const LIST: usize = 1024;
+const LIST: usize = MAX_GRAPHS;
 
-const DUE: usize = 2048;
+const DUE: usize = LIST + MAX_GRAPHS;
+
+const WALK: usize = DUE + 32;
 
 // Room for a walk.
 pub fn walk_room() -> Walk
-    ensures { λ r. ⌜ 2080 ≡ length r ⌝ }
+    ensures { λ r. ⌜ walkLength ≡ length r ⌝ }
 {
-    [0u32; 2080]
+    [0u32; WALK]
 }
 
 // The readers of graph h become due.
 fn note_due(c: Counts, tables: &[u32], h: usize, walk: &mut [u32])
-    requires { ⌜ (h < 1024) × (c .graphs ≤ 1024) × (34848 ≤ length (now tables)) × (2080 ≤ length (now walk)) ⌝ }
+    requires { ⌜ (h < maxGraphs) × (c .graphs ≤ maxGraphs) × (gradeFrom ≤ length (now tables)) × (walkLength ≤ length (now walk)) ⌝ }
     ensures { λ _. ⌜ Gains dueFrom (now (walk .entry)) (now (walk .exit))
         × ((j : ℕ) → h ≤ j → j < c .graphs → member (now (tables .entry)) (readersOf h) j ≤ member (now (walk .exit)) dueFrom j) ⌝ }
 {
@@ -43,7 +47,7 @@ fn note_due(c: Counts, tables: &[u32], h: usize, walk: &mut [u32])
 
 // Graph h has the value v, is number n of the list, and its readers are due.
 fn list_graph(c: Counts, tables: &[u32], h: usize, v: u32, n: usize, walk: &mut [u32])
-    requires { ⌜ (h < 1024) × (n < 1024) × (c .graphs ≤ 1024) × (34848 ≤ length (now tables)) × (2080 ≤ length (now walk)) ⌝ }
+    requires { ⌜ (h < maxGraphs) × (n < maxGraphs) × (c .graphs ≤ maxGraphs) × (gradeFrom ≤ length (now tables)) × (walkLength ≤ length (now walk)) ⌝ }
     ensures { λ _. ⌜ Lists c (now (tables .entry)) h v n (now (walk .entry)) (now (walk .exit)) ⌝ }
 {
     lists::put(walk, h, v);
@@ -53,7 +57,7 @@ fn list_graph(c: Counts, tables: &[u32], h: usize, v: u32, n: usize, walk: &mut 
 
 // The start of the walk of graph g, which is flipped and listed.
 fn begin(c: Counts, tables: &[u32], g: usize, walk: &mut [u32])
-    requires { ⌜ (g < c .graphs) × (c .graphs ≤ 1024) × (34848 ≤ length (now tables)) × (2080 ≤ length (now walk)) × (getD (now walk) g 0 < 2) ⌝ }
+    requires { ⌜ (g < c .graphs) × (c .graphs ≤ maxGraphs) × (gradeFrom ≤ length (now tables)) × (walkLength ≤ length (now walk)) × (getD (now walk) g 0 < 2) ⌝ }
     ensures { λ _. ⌜ Entries (c .graphs) 1 (now (walk .exit)) × ((ws : List ℕ) → observable ws g ≡ false → Hidden ws 1 (now (walk .exit)))
         × ((ws x : List ℕ) → Tabled ws c (now (tables .entry)) → observable ws g ≡ false
         → Has (value ws c good x) (c .graphs) (now (walk .entry)) → Walking ws c x g (g + 1) 1 (now (walk .exit))) ⌝ }
@@ -66,8 +70,8 @@ fn begin(c: Counts, tables: &[u32], g: usize, walk: &mut [u32])
 // Graph h, which is due, is walked again, with n graphs listed and none of them observable; the answer is how many are listed then. An input is never due,
 // but no promise of the sets says so.
 fn step(card: &[u32], c: Counts, tables: &[u32], h: usize, n: usize, walk: &mut [u32]) -> usize
-    requires { ⌜ Tabled (now card) c (now tables) × (h < c .graphs) × (n ≤ h) × Entries (c .graphs) n (now walk) × Hidden (now card) n (now walk) × (2080 ≤ length (now walk)) ⌝ }
-    ensures { λ r. ⌜ (r ≤ h + 1) × Entries (c .graphs) r (now (walk .exit)) × (ends (now (card .entry)) h n r ≡ false → Hidden (now (card .entry)) r (now (walk .exit)))
+    requires { ⌜ Tabled (now card) c (now tables) × (h < c .graphs) × (n ≤ h) × Entries (c .graphs) n (now walk) × Hidden (now card) n (now walk) × (walkLength ≤ length (now walk)) ⌝ }
+    ensures { λ r. ⌜ (r ≤ h + 1) × Entries (c .graphs) r (now (walk .exit)) × (walkEnds (now (card .entry)) h n r ≡ false → Hidden (now (card .entry)) r (now (walk .exit)))
         × ((x : List ℕ) (g : ℕ) → Walking (now (card .entry)) c x g h n (now (walk .entry))
         → Stepped (now (card .entry)) c x g h n r (now (walk .exit))) ⌝ }
 {
@@ -86,7 +90,7 @@ fn step(card: &[u32], c: Counts, tables: &[u32], h: usize, n: usize, walk: &mut 
 // Whether the walk ends with graph h, after which m graphs are listed and before which n were.
 fn is_last(card: &[u32], tables: &[u32], h: usize, n: usize, m: usize) -> bool
     requires { ⌜ Walkable (now card) (now tables) h ⌝ }
-    ensures { λ r. ⌜ r ≡ ends (now (card .entry)) h n m ⌝ }
+    ensures { λ r. ⌜ r ≡ walkEnds (now (card .entry)) h n m ⌝ }
 {
     if n == m {
         return false;
@@ -96,7 +100,7 @@ fn is_last(card: &[u32], tables: &[u32], h: usize, n: usize, m: usize) -> bool
 
 // THE STOPPED WALK of graph g, which is not observable: how many graphs it lists, each of them flipped.
 fn stopped_walk(card: &[u32], c: Counts, tables: &[u32], g: usize, walk: &mut [u32]) -> usize
-    requires { ⌜ Tabled (now card) c (now tables) × (g < c .graphs) × (observable (now card) g ≡ false) × (2080 ≤ length (now walk)) × (getD (now walk) g 0 < 2) ⌝ }
+    requires { ⌜ Tabled (now card) c (now tables) × (g < c .graphs) × (observable (now card) g ≡ false) × (walkLength ≤ length (now walk)) × (getD (now walk) g 0 < 2) ⌝ }
     ensures { λ r. ⌜ (r ≤ c .graphs)
         × ((x : List ℕ) → Has (value (now (card .entry)) c good x) (c .graphs) (now (walk .entry)) → Stops (now (card .entry)) c x g r (now (walk .exit)))
         × Entries (c .graphs) r (now (walk .exit)) ⌝ }
@@ -118,9 +122,9 @@ fn stopped_walk(card: &[u32], c: Counts, tables: &[u32], g: usize, walk: &mut [u
     }
 }
 
-// The words of the n listed graphs are again those of the values, which have a word for each place.
+// The words of the n listed graphs are again those of the values, which have a word for each fault site.
 fn put_back(c: Counts, values: &[u32], n: usize, walk: &mut [u32])
-    requires { ⌜ (n ≤ 1024) × (c .graphs ≤ 1024) × Entries (c .graphs) n (now walk) × (c .nodes + c .graphs ≤ length (now values)) × (2080 ≤ length (now walk)) ⌝ }
+    requires { ⌜ (n ≤ maxGraphs) × (c .graphs ≤ maxGraphs) × Entries (c .graphs) n (now walk) × (c .nodes + c .graphs ≤ length (now values)) × (walkLength ≤ length (now walk)) ⌝ }
     ensures { λ _. ⌜ ((v : ℕ → ℕ) → ((i : ℕ) → i < c .graphs → getD (now (values .entry)) (c .nodes + i) 0 ≡ v i)
         → But v (c .graphs) 0 n (now (walk .entry)) → Has v (c .graphs) (now (walk .exit))) ⌝ }
 {
@@ -144,7 +148,7 @@ pub fn is_critical(
     walk: &mut [u32],
 ) -> bool
     requires { ⌜ Tabled (now card) c (now tables) × (g < c .graphs) × (observable (now card) g ≡ false) × (c .nodes + c .graphs ≤ length (now values))
-        × (2080 ≤ length (now walk)) × (getD (now walk) g 0 < 2) ⌝ }
+        × (walkLength ≤ length (now walk)) × (getD (now walk) g 0 < 2) ⌝ }
     ensures { λ r. ⌜ ((x : List ℕ) → Swept (now (card .entry)) c x (c .graphs) (now (values .entry)) → Has (value (now (card .entry)) c good x) (c .graphs) (now (walk .entry))
         → (r ≡ critical (now (card .entry)) c x g) × Has (value (now (card .entry)) c good x) (c .graphs) (now (walk .exit))) ⌝ }
 {

@@ -1,24 +1,22 @@
 -- A CARD WITH NO INVERTED READ GRADES AS IT DID: all goes by the values, which are as they were, and by a node's decision, which is the value read. Assumes
 -- nothing.
 use Prim.Native.Nat.{ℕ, _+_, _-_, _*_, _<_}
-use mathlib.Core.Path.{_≡_, ap, ap₂, fun-ext, _∙_}
+use mathlib.Core.Path.{_≡_, refl, ap, ap₂, fun-ext, _∙_}
 use mathlib.Core.List.{List, [], _∷_}
-use mathlib.Core.Bool.{_&&_}
 use native.Mathlib.Omega.{arith}
-use lib.Dec.{ltb}
-use Rattle.lists.proofs.Counting.{count-same}
 use Rattle.answers.specs.declared.Counts.{Counts}
 use Rattle.layout.specs.Shape.{Shape}
 use Rattle.layout.proofs.Stands.{owner}
 use Rattle.cardtables.specs.Stems.{readBy, inGrade}
-use Rattle.testvectors.specs.Vectors.{vector}
+use Rattle.testvectors.specs.Vectors.{vectors, vector}
 use Rattle.value.specs.Settings.{Setting, good, faulty}
 use Rattle.value.specs.Values.{value}
 use Rattle.value.specs.Direct.{Direct, directValue}
 use Rattle.value.proofs.Direct.{decision-direct, value-direct}
 use Rattle.detect.specs.Detects.{observed, goodValue, decisionOf, detects, changes, criticalAt}
 use Rattle.detect.specs.Grading.{detectedBy, tally, mark, marked}
-use Rattle.detect.specs.Direct.{directDetects, directOpposite, directChanges, directCritical, directDetectedBy, directTally, directMark, directMarked, AsBefore}
+use Rattle.detect.specs.Direct.{directDetects, directOpposite, directChanges, directCritical, directDetectedBy, AsBefore}
+use Rattle.detect.proofs.Relation.{tallyOf-same, markOf-same, markedOf-same}
 
 module _ {ws : List ℕ} {c : Counts} (a : Shape ws c) (direct : Direct ws c) where
   values-direct : (s : Setting) (x : List ℕ) → value ws c s x ≡ directValue ws c s x
@@ -43,31 +41,14 @@ module _ {ws : List ℕ} {c : Counts} (a : Shape ws c) (direct : Direct ws c) wh
   unfolding criticalAt
   critical-direct x j l = detects-direct x _ ∙ ap (λ (d : ℕ). directDetects ws c x (2 * j + (1 - d))) (decision-read x j l)
 
-  -- of a list
-  module _ (xs : List ℕ) where
-    detected-direct : (f : ℕ) → detectedBy ws c xs f ≡ directDetectedBy ws c xs f
-    unfolding detectedBy
-    detected-direct f = fun-ext (λ t. detects-direct (vector (c .inputs) xs t) f)
-
-    tally-direct : (f : ℕ) → tally ws c xs f ≡ directTally ws c xs f
-    unfolding tally
-    tally-direct f = rw (detected-direct f)
-
-    mark-direct : (f : ℕ) → mark ws c xs f ≡ directMark ws c xs f
-    unfolding mark
-    mark-direct f = rw (detected-direct f)
-
-    marked-direct : marked ws c xs ≡ directMarked ws c xs
-    unfolding marked
-    marked-direct = count-same _ _ (c .faults) (λ f _. ap (λ (n : ℕ). inGrade ws c f && ltb 0 n) (tally-direct f))
-
   pub direct-as-before : AsBefore ws c
+  unfolding detectedBy tally mark marked
   direct-as-before = record {
     values = value-direct a direct;
     caught = detects-direct;
     changed = changes-direct;
     critical = critical-direct;
-    tallies = tally-direct;
-    marks = mark-direct;
-    counted = marked-direct;
+    tallies = λ xs f. tallyOf-same (detectedBy ws c xs) (directDetectedBy ws c xs) (vectors (c .inputs) xs) f f (λ t l. detects-direct (vector (c .inputs) xs t) f);
+    marks = λ xs f. markOf-same (detectedBy ws c xs) (directDetectedBy ws c xs) (vectors (c .inputs) xs) f f (λ t l. detects-direct (vector (c .inputs) xs t) f);
+    counted = λ xs. markedOf-same _ _ (vectors (c .inputs) xs) (inGrade ws c) _ (c .faults) (λ f h. refl) (λ f t h l. detects-direct (vector (c .inputs) xs t) f);
   }

@@ -3,9 +3,8 @@
 use Prim.Native.Nat.{ℕ, _+_, _-_, _*_, _<_}
 use mathlib.Core.Path.{_≡_}
 use mathlib.Core.List.{List, [], _∷_}
-use mathlib.Core.Bool.{Bool, not, _&&_}
-use lib.Dec.{ltb, eqb}
-use Rattle.lists.specs.Counting.{count}
+use mathlib.Core.Bool.{Bool, not}
+use lib.Dec.{eqb}
 use Rattle.answers.specs.declared.Counts.{Counts}
 use Rattle.cardtables.specs.Stems.{readBy, inGrade}
 use Rattle.testvectors.specs.Vectors.{vectors, vector}
@@ -13,7 +12,8 @@ use Rattle.value.specs.Settings.{Setting, good, faulty}
 use Rattle.value.specs.Values.{value}
 use Rattle.value.specs.Direct.{directValue}
 use Rattle.detect.specs.Detects.{observed, detects, changes, criticalAt}
-use Rattle.detect.specs.Grading.{markBy, tally, mark, marked}
+use Rattle.detect.specs.Relation.{tallyOf, markOf, markedOf}
+use Rattle.detect.specs.Grading.{tally, mark, marked}
 
 module _ (ws : List ℕ) (c : Counts) (x : List ℕ) where
   -- what the vector catches, which graphs change with g held at the opposite of its good value, and which nodes are critical
@@ -36,13 +36,13 @@ module _ (ws : List ℕ) (c : Counts) (xs : List ℕ) where
   directDetectedBy f t = directDetects ws c (vector (c .inputs) xs t) f
 
   abbrev pub directTally : ℕ → ℕ
-  directTally f = count (directDetectedBy f) (vectors (c .inputs) xs)
+  directTally = tallyOf directDetectedBy (vectors (c .inputs) xs)
 
   abbrev pub directMark : ℕ → ℕ
-  directMark f = markBy (directDetectedBy f) (vectors (c .inputs) xs)
+  directMark = markOf directDetectedBy (vectors (c .inputs) xs)
 
   abbrev pub directMarked : ℕ
-  directMarked = count (λ f. inGrade ws c f && ltb 0 (directTally f)) (c .faults)
+  directMarked = markedOf directDetectedBy (inGrade ws c) (vectors (c .inputs) xs) (c .faults)
 
 -- THE STATEMENT: values, what is caught, change lists, critical nodes and gradings are as they were
 pub record AsBefore (ws : List ℕ) (c : Counts) : Type 0 where

@@ -1,3 +1,4 @@
 pub mod Detects
+pub mod Relation
 pub mod Grading
 pub mod Direct

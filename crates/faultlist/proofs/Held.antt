@@ -18,11 +18,11 @@ use Rattle.value.specs.Values.{taken, graph, value}
 use Rattle.value.proofs.Settings.{faulty-here, faulty-off}
 use Rattle.value.proofs.Walk.{same-graph}
 use Rattle.value.proofs.Values.{taken-later, value-solves, value-unique}
-use Rattle.faultlist.specs.Faults.{atPlace}
+use Rattle.faultlist.specs.Faults.{atSite}
 
--- a place with a fault of the list has the same, whatever is worked out there
-held-same : (p : ℕ) (fs : List ℕ) → atPlace p fs ≡ true → (u v : ℕ) → faulty fs p u ≡ faulty fs p v
-unfolding atPlace
+-- a site with a fault of the list has the same, whatever is worked out there
+held-same : (p : ℕ) (fs : List ℕ) → atSite p fs ≡ true → (u v : ℕ) → faulty fs p u ≡ faulty fs p v
+unfolding atSite
 held-same p [] e u v = absurd (false≢true e)
 held-same p (f ∷ fs) e u v = elim (ℕ-discrete (f / 2) p) [
   | yes q ↦ faulty-here f fs p u q ∙ sym (faulty-here f fs p v q)
@@ -31,7 +31,7 @@ held-same p (f ∷ fs) e u v = elim (ℕ-discrete (f / 2) p) [
 
 -- fault n is one of local node k of graph g, and the list holds the graph
 module _ {ws : List ℕ} {c : Counts} (a : Shape ws c) (fs x : List ℕ) (g k n : ℕ) (l : g < c .graphs) (i : k < size ws g) (at-node : n / 2 ≡ first ws g + k)
-    (held : atPlace (c .nodes + g) fs ≡ true) where
+    (held : atSite (c .nodes + g) fs ≡ true) where
   off-graph : (h v : ℕ) → faulty (n ∷ fs) (c .nodes + h) v ≡ faulty fs (c .nodes + h) v
   off-graph h v = faulty-off n fs (c .nodes + h) v (λ r. omega (arith, node-below a g k l i))
 

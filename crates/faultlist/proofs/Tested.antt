@@ -12,20 +12,20 @@ use Rattle.answers.specs.declared.Rule.the-variants.{NumberTooHigh, FaultListFo
 use Rattle.answers.specs.declared.Verdict.the-variants.{Sound, Broken}
 use Rattle.answers.specs.Tests.{firstBroken}
 use Rattle.answers.proofs.Tests.{all-passed}
-use Rattle.faultlist.specs.Faults.{tooHigh, atPlace, placeTwice, faultTests}
+use Rattle.faultlist.specs.Faults.{tooHigh, atSite, siteTwice, faultTests}
 
 -- a loop over a list: the numbers from i on
 module _ (fs : List ℕ) where
-  pub twice-over : (i : ℕ) → length fs ≤ i → placeTwice (drop i fs) ≡ false
-  unfolding placeTwice
+  pub twice-over : (i : ℕ) → length fs ≤ i → siteTwice (drop i fs) ≡ false
+  unfolding siteTwice
   twice-over i h = rw (drop-of-length-le fs h)
 
-  pub twice-hit : (i : ℕ) → i < length fs → atPlace (getD fs i 0 / 2) (drop (i + 1) fs) ≡ true → placeTwice (drop i fs) ≡ true
-  unfolding placeTwice
+  pub twice-hit : (i : ℕ) → i < length fs → atSite (getD fs i 0 / 2) (drop (i + 1) fs) ≡ true → siteTwice (drop i fs) ≡ true
+  unfolding siteTwice
   twice-hit i h e = rw (drop-cons fs i 0 h, rw add-one at e)
 
-  pub twice-next : (i : ℕ) → i < length fs → atPlace (getD fs i 0 / 2) (drop (i + 1) fs) ≡ false → placeTwice (drop i fs) ≡ placeTwice (drop (i + 1) fs)
-  unfolding placeTwice
+  pub twice-next : (i : ℕ) → i < length fs → atSite (getD fs i 0 / 2) (drop (i + 1) fs) ≡ false → siteTwice (drop i fs) ≡ siteTwice (drop (i + 1) fs)
+  unfolding siteTwice
   twice-next i h e = rw (add-one, drop-cons fs i 0 h, rw add-one at e)
 
 -- the tests one after another, each where those before it pass
@@ -45,11 +45,11 @@ module _ (extra : ℕ) (fs : List ℕ) (room : ℕ) (c : Counts) where
       many-told h = rw (low, le-ltb 0 extra even, lt-ltb 8 (length fs) h)
 
       module _ (few : length fs ≤ 8) where
-        pub twice-told : placeTwice fs ≡ true → Broken FaultListForm 0 ≡ firstBroken (faultTests extra fs room c)
+        pub twice-told : siteTwice fs ≡ true → Broken FaultListForm 0 ≡ firstBroken (faultTests extra fs room c)
         unfolding faultTests
         twice-told e = rw (low, le-ltb 0 extra even, le-ltb 8 (length fs) few, e)
 
-        module _ (apart : placeTwice fs ≡ false) where
+        module _ (apart : siteTwice fs ≡ false) where
           pub short-told : room < c .graphs → Broken BufferTooShort 0 ≡ firstBroken (faultTests extra fs room c)
           unfolding faultTests
           short-told h = rw (low, le-ltb 0 extra even, le-ltb 8 (length fs) few, apart, lt-ltb room (c .graphs) h)
@@ -58,9 +58,9 @@ module _ (extra : ℕ) (fs : List ℕ) (room : ℕ) (c : Counts) where
           unfolding faultTests
           none-told h = rw (low, le-ltb 0 extra even, le-ltb 8 (length fs) few, apart, le-ltb room (c .graphs) h)
 
-  -- a call that passes them has no two faults of one place, and room for the values
+  -- a call that passes them has no two faults of one site, and room for the values
   module _ (e : firstBroken (faultTests extra fs room c) ≡ Sound) where
-    pub faults-apart : placeTwice fs ≡ false
+    pub faults-apart : siteTwice fs ≡ false
     unfolding faultTests
     faults-apart = all-passed (faultTests extra fs room c) e .1 .1 .1 .0
 

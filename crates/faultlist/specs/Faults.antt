@@ -14,25 +14,25 @@ unfoldable pub tooHigh : ℕ → List ℕ → Bool
 unfolding some-of
 tooHigh F fs = some-of (leb F) fs
 
--- some number of the list is a fault of place p: fault f is one of place f / 2 (`value`, specs/Settings.antt)
-unfoldable pub atPlace : ℕ → List ℕ → Bool
+-- some number of the list is a fault of site p: fault f is one of site f / 2 (`value`, specs/Settings.antt)
+unfoldable pub atSite : ℕ → List ℕ → Bool
 unfolding some-of
-atPlace p fs = some-of (λ f. eqb (f / 2) p) fs
+atSite p fs = some-of (λ f. eqb (f / 2) p) fs
 
--- two numbers of the list are faults of one place: a number repeated, or both faults of one node or graph
-unfoldable pub placeTwice : List ℕ → Bool
-unfolding atPlace
-placeTwice [] = false
-placeTwice (f ∷ fs) = atPlace (f / 2) fs || placeTwice fs
+-- two numbers of the list are faults of one site: a number repeated, or both faults of one node or graph
+unfoldable pub siteTwice : List ℕ → Bool
+unfolding atSite
+siteTwice [] = false
+siteTwice (f ∷ fs) = atSite (f / 2) fs || siteTwice fs
 
 -- THE TESTS of a call with the faults fs, with `extra` bytes after them that are no number, and with a buffer of `room` words: each fault's number;
--- then the list, which is whole numbers, at most 8 of them, no two of one place; then the buffer's length
+-- then the list, which is whole numbers, at most 8 of them, no two of one site; then the buffer's length
 unfoldable pub faultTests : ℕ → List ℕ → ℕ → Counts → List Test
-unfolding tooHigh placeTwice
+unfolding tooHigh siteTwice
 faultTests extra fs room c =
     test (tooHigh (c .faults) fs) NumberTooHigh 0
     ∷ test (ltb 0 extra) FaultListForm 0
     ∷ test (ltb 8 (length fs)) FaultListForm 0
-    ∷ test (placeTwice fs) FaultListForm 0
+    ∷ test (siteTwice fs) FaultListForm 0
     ∷ test (ltb room (c .graphs)) BufferTooShort 0
     ∷ []

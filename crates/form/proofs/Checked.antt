@@ -18,7 +18,7 @@ use Rattle.answers.specs.declared.Counts.{Counts}
 use Rattle.answers.specs.declared.Verdict.the-variants.{Sound}
 use Rattle.answers.specs.declared.Answer.the-variants.{Accepted}
 use Rattle.answers.specs.Tests.{test, firstBroken}
-use Rattle.form.specs.Check.{counts, place, withGraph, headerVerdict, word, readVerdict, exitsVerdict, nodesVerdict, graphVerdict, ended, rest, longTests, checkedWith}
+use Rattle.form.specs.Check.{counts, cardLength, withGraph, headerVerdict, word, readVerdict, exitsVerdict, nodesVerdict, graphVerdict, ended, rest, longTests, checkedWith}
 use Rattle.layout.specs.Layout.{first, header, isInput, observable, size, reads, exits}
 use Rattle.layout.specs.Shape.{ReadsLower, ExitsLater, Shape, Accepts}
 use Rattle.layout.proofs.Firsts.{first-next}
@@ -28,7 +28,7 @@ use Rattle.form.proofs.Verdicts.{header-sound, an-input, an-output, hea
 -- The graph due after those that c counts. Its header w and its words are those that the layout names.
 module _ (ws : List ℕ) (c : Counts) (s : Shape ws c) where
   abbrev w : ℕ
-  w = word ws (place c)
+  w = word ws (cardLength c)
 
   header-is : header ws (c .graphs) ≡ w
   header-is = ap (λ (n : ℕ). word ws (c .graphs + 2 * n)) (s .nodes-in)
@@ -45,32 +45,32 @@ module _ (ws : List ℕ) (c : Counts) (s : Shape ws c) where
   unfolding size
   size-is = ap nodeCount header-is
 
-  reads-is : (k : ℕ) → reads ws (c .graphs) k ≡ readGraph (word ws (place c + 1 + 2 * k))
+  reads-is : (k : ℕ) → reads ws (c .graphs) k ≡ readGraph (word ws (cardLength c + 1 + 2 * k))
   unfolding reads
   reads-is k =
-      let e : c .graphs + 1 + 2 * (first ws (c .graphs) + k) ≡ place c + 1 + 2 * k = omega (arith, s .nodes-in) in
+      let e : c .graphs + 1 + 2 * (first ws (c .graphs) + k) ≡ cardLength c + 1 + 2 * k = omega (arith, s .nodes-in) in
       ap (λ (n : ℕ). readGraph (word ws n)) e
 
-  exits-is : (k d : ℕ) → exits ws (c .graphs) k d ≡ exitOf (word ws (place c + 2 + 2 * k)) d
+  exits-is : (k d : ℕ) → exits ws (c .graphs) k d ≡ exitOf (word ws (cardLength c + 2 + 2 * k)) d
   unfolding exits
   exits-is k d =
-      let e : c .graphs + 2 + 2 * (first ws (c .graphs) + k) ≡ place c + 2 + 2 * k = omega (arith, s .nodes-in) in
+      let e : c .graphs + 2 + 2 * (first ws (c .graphs) + k) ≡ cardLength c + 2 + 2 * k = omega (arith, s .nodes-in) in
       ap (λ (n : ℕ). exitOf (word ws n) d) e
 
   -- what holds of the graphs so far and of the one due holds of all of them
   more : (P : ℕ → Type 0) → ((g : ℕ) → g < c .graphs → P g) → P (c .graphs) → (g : ℕ) → g < c .graphs + 1 → P g
   more P f q g h = elim (ℕ-discrete g (c .graphs)) [ yes e ↦ rw e q | no n ↦ f g (omega arith) ]
 
-  module _ (fits : place c < length ws) (e : graphVerdict ws c ≡ Sound) where
-    parts : (headerVerdict w c ≡ Sound) × (nodesVerdict ws (c .graphs) (place c) (nodeCount w) (nodeCount w) 0 ≡ Sound)
+  module _ (fits : cardLength c < length ws) (e : graphVerdict ws c ≡ Sound) where
+    parts : (headerVerdict w c ≡ Sound) × (nodesVerdict ws (c .graphs) (cardLength c) (nodeCount w) (nodeCount w) 0 ≡ Sound)
     unfolding graphVerdict
     parts =
         let (h, e′) = then-sound (headerVerdict w c) _ e in
-        (h, then-sound (nodesVerdict ws (c .graphs) (place c) (nodeCount w) (nodeCount w) 0) _ e′ .0)
+        (h, then-sound (nodesVerdict ws (c .graphs) (cardLength c) (nodeCount w) (nodeCount w) 0) _ e′ .0)
 
     node-sound : (k : ℕ) → k < nodeCount w
-        → (readVerdict ws (c .graphs) (place c + 1 + 2 * k) ≡ Sound) × (exitsVerdict ws (nodeCount w) k (place c + 2 + 2 * k) ≡ Sound)
-    node-sound k l = nodes-sound ws (c .graphs) (place c) (nodeCount w) (nodeCount w) 0 (parts .1) k (omega arith) (omega arith)
+        → (readVerdict ws (c .graphs) (cardLength c + 1 + 2 * k) ≡ Sound) × (exitsVerdict ws (nodeCount w) k (cardLength c + 2 + 2 * k) ≡ Sound)
+    node-sound k l = nodes-sound ws (c .graphs) (cardLength c) (nodeCount w) (nodeCount w) 0 (parts .1) k (omega arith) (omega arith)
 
     -- the last node's exits stand inside the words
     fits-more : c .graphs + 1 + 2 * (c .nodes + nodeCount w) ≤ length ws
@@ -78,7 +78,7 @@ module _ (ws : List ℕ) (c : Counts) (s : Shape ws c) where
       | yes z ↦ omega arith
       | no n ↦
           let k = nodeCount w - 1 in
-          omega (arith, exits-sound ws (nodeCount w) k (place c + 2 + 2 * k) (node-sound k (omega arith) .1) .0)
+          omega (arith, exits-sound ws (nodeCount w) k (cardLength c + 2 + 2 * k) (node-sound k (omega arith) .1) .0)
     ]
 
     -- an input comes before every output, so an input due means that all so far are inputs
@@ -95,7 +95,7 @@ module _ (ws : List ℕ) (c : Counts) (s : Shape ws c) where
         more (λ g. c .inputs ≤ g → (isInput ws g ≡ false) × (0 < size ws g)) (s .output)
         (λ _. (input-is ∙ z, rw size-is (an-output w c (parts .0) z .0))) g h (omega arith)
 
-    pub graph-step : Shape ws (withGraph (word ws (place c)) c)
+    pub graph-step : Shape ws (withGraph (word ws (cardLength c)) c)
     graph-step = record {
       fits = fits-more;
       few-graphs = omega (arith, header-sound w c (parts .0) .0);
@@ -107,9 +107,9 @@ module _ (ws : List ℕ) (c : Counts) (s : Shape ws c) where
       output = output-more (eqb (kind w) 0) refl;
       seen = rw (add-one, count-next, observable-is) (ap (_+ choose (eqb (kind w) 2) 1 0) (s .seen));
       reads-lower = more (ReadsLower ws) (s .reads-lower) (λ k l.
-          rw (reads-is k) (read-told ws (c .graphs) (place c + 1 + 2 * k) (node-sound k (rw size-is at l) .0) .lower));
+          rw (reads-is k) (read-told ws (c .graphs) (cardLength c + 1 + 2 * k) (node-sound k (rw size-is at l) .0) .lower));
       exits-later = more (ExitsLater ws) (s .exits-later) (λ k d l i z.
-          rw size-is (later-exits ws (nodeCount w) k (place c + 2 + 2 * k) d l (node-sound k (rw size-is at i) .1) (sym (exits-is k d) ∙ z)));
+          rw size-is (later-exits ws (nodeCount w) k (cardLength c + 2 + 2 * k) d l (node-sound k (rw size-is at i) .1) (sym (exits-is k d) ∙ z)));
     }
 
 -- no graph is read
@@ -141,7 +141,7 @@ module _ {ws : List ℕ} {c : Counts} (s : Shape ws c) where
   ]
 
   -- the words end there
-  ended-accepts : (extra : ℕ) (d : Counts) → length ws ≤ place c → ended ws extra c ≡ Accepted d → Accepts ws d
+  ended-accepts : (extra : ℕ) (d : Counts) → length ws ≤ cardLength c → ended ws extra c ≡ Accepted d → Accepts ws d
   ended-accepts extra d l e =
       let last = test (ltb 0 extra) WordNotDue (length ws) ∷ test (eqb (c .observable) 0) NothingObservable (length ws) ∷ [] in
       let (v, a) = onward-accepts (firstBroken last) (Accepted c) d e in
@@ -154,12 +154,12 @@ module _ (ws : List ℕ) (extra : ℕ) (d : Counts) where
   rest-accepts : (left : ℕ) (c : Counts) → Shape ws c → rest ws extra left c ≡ Accepted d → Accepts ws d
   unfolding rest
   rest-accepts zero c s e = let z : _≡_ {A = ℕ} 0 1 = cc in absurd (omega arith)
-  rest-accepts (suc left) c s e = elim (decLe (length ws) (place c)) [
-    | yes l ↦ ended-accepts s extra d l (rw (le-leb (length ws) (place c) l) at e)
+  rest-accepts (suc left) c s e = elim (decLe (length ws) (cardLength c)) [
+    | yes l ↦ ended-accepts s extra d l (rw (le-leb (length ws) (cardLength c) l) at e)
     | no n ↦
-        let l : place c < length ws = omega arith in
-        let (v, e′) = onward-accepts (graphVerdict ws c) _ d (rw (lt-leb (length ws) (place c) l) at e) in
-        rest-accepts left (withGraph (word ws (place c)) c) (graph-step ws c s l v) e′
+        let l : cardLength c < length ws = omega arith in
+        let (v, e′) = onward-accepts (graphVerdict ws c) _ d (rw (lt-leb (length ws) (cardLength c) l) at e) in
+        rest-accepts left (withGraph (word ws (cardLength c)) c) (graph-step ws c s l v) e′
   ]
 
 pub check-accepts : (ws : List ℕ) (extra : ℕ) (c : Counts) → checkedWith ws extra ≡ Accepted c → Accepts ws c
@@ -181,11 +181,11 @@ ended-whole ws extra c d e =
 rest-whole : (ws : List ℕ) (extra : ℕ) (d : Counts) (left : ℕ) (c : Counts) → rest ws extra left c ≡ Accepted d → extra ≡ 0
 unfolding rest
 rest-whole ws extra d zero c e = let z : _≡_ {A = ℕ} 0 1 = cc in absurd (omega arith)
-rest-whole ws extra d (suc left) c e = elim (decLe (length ws) (place c)) [
-  | yes l ↦ ended-whole ws extra c d (rw (le-leb (length ws) (place c) l) at e)
+rest-whole ws extra d (suc left) c e = elim (decLe (length ws) (cardLength c)) [
+  | yes l ↦ ended-whole ws extra c d (rw (le-leb (length ws) (cardLength c) l) at e)
   | no n ↦
-      let l : place c < length ws = omega arith in
-      rest-whole ws extra d left (withGraph (word ws (place c)) c) (onward-accepts (graphVerdict ws c) _ d (rw (lt-leb (length ws) (place c) l) at e) .1)
+      let l : cardLength c < length ws = omega arith in
+      rest-whole ws extra d left (withGraph (word ws (cardLength c)) c) (onward-accepts (graphVerdict ws c) _ d (rw (lt-leb (length ws) (cardLength c) l) at e) .1)
 ]
 
 no-leftover : (ws : List ℕ) (extra : ℕ) (c : Counts) → checkedWith ws extra ≡ Accepted c → extra ≡ 0

@@ -11,7 +11,7 @@ use Rattle.word32.specs.Fields.{readSpare, readInverted, readGraph}
 use Rattle.word32.proofs.Fields.{clear-before, clear-direct}
 use Rattle.answers.specs.declared.Rule.the-variants.{StrayBit, ReadNotBelow}
 use Rattle.answers.specs.Tests.{test, firstBroken}
-use Rattle.form.specs.Check.{word, due, readVerdict}
+use Rattle.form.specs.Check.{word, dueTests, readVerdict}
 
 -- bits 28..16
 abbrev pub formerSpare : ℕ → ℕ
@@ -25,7 +25,7 @@ spare-direct w e = elim (ℕ-discrete (readSpare w) 0) [
 
 pub read-as-before : (ws : List ℕ) (g p : ℕ) → readInverted (word ws p) ≡ 0
     → readVerdict ws g p
-    ≡ firstBroken (due ws p 3 (test (not (eqb (formerSpare (word ws p)) 0)) StrayBit p ∷ test (leb g (readGraph (word ws p))) ReadNotBelow p ∷ []))
+    ≡ firstBroken (dueTests ws p 3 (test (not (eqb (formerSpare (word ws p)) 0)) StrayBit p ∷ test (leb g (readGraph (word ws p))) ReadNotBelow p ∷ []))
 unfolding readVerdict
 read-as-before ws g p e =
-    ap (λ (b : Bool). firstBroken (due ws p 3 (test (not b) StrayBit p ∷ test (leb g (readGraph (word ws p))) ReadNotBelow p ∷ []))) (spare-direct (word ws p) e)
+    ap (λ (b : Bool). firstBroken (dueTests ws p 3 (test (not b) StrayBit p ∷ test (leb g (readGraph (word ws p))) ReadNotBelow p ∷ []))) (spare-direct (word ws p) e)

@@ -4,8 +4,8 @@ use Prim.Native.Nat.{ℕ}
 use mathlib.Core.List.{List, [], _∷_, map}
 use mathlib.Core.Path.{_≡_, refl}
 use lib.ListN.{replicate}
-use Rattle.form.specs.Check.{checkedWith, checkTold}
-use Rattle.answers.specs.Answers.{Told, refusal, result, answerTold}
+use Rattle.form.specs.Check.{checkedWith, checked}
+use Rattle.answers.specs.Told.{Told, refusal, result, answerTold}
 
 abbrev pub S : List ℕ
 S = 0x00000000 ∷ 0x20000001 ∷ 0x60000000 ∷ 0x80000001 ∷ 0x40000002 ∷ 0x60000001 ∷ 0x80000003 ∷ 0x60000000 ∷ 0x80000001 ∷ []
@@ -55,7 +55,7 @@ inverted-read =
     ∷ []
 
 abbrev pub answered : Case → Case
-answered c = record { card = c .card; told = checkTold (c .card) }
+answered c = record { card = c .card; told = answerTold (checked (c .card)) }
 
 pub examples : (map answered table ≡ table) × (map answered twice-broken ≡ twice-broken) × (map answered inverted-read ≡ inverted-read)
 unfolding checkedWith answerTold

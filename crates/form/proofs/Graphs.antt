@@ -16,7 +16,7 @@ use Rattle.answers.specs.declared.Answer.the-variants.{Accepted}
 use Rattle.answers.specs.Tests.{Test, test, firstBroken}
 use Rattle.answers.proofs.Tests.{Passed, then-sound, sound-then, all-passed, passed-sound}
 use Rattle.word32.specs.Fields.{kind, headerSpare, readSpare, nodeCount, readGraph}
-use Rattle.form.specs.Check.{place, word, due, outputTests, headerVerdict, readVerdict, exitsVerdict, nodeVerdict, nodesVerdict}
+use Rattle.form.specs.Check.{cardLength, word, dueTests, outputTests, headerVerdict, readVerdict, exitsVerdict, nodeVerdict, nodesVerdict}
 use Rattle.form.specs.Check.{names, unnamed, graphVerdict, checked}
 use Rattle.layout.specs.Layout.{first, header, isInput, size}
 use Rattle.form.proofs.Verdicts.{header-sound, an-output, Read, readTests, exitsTests, read-told, exits-told, nodes-sound}
@@ -24,8 +24,8 @@ use Rattle.form.proofs.Checked.{check-accepts}
 use Rattle.form.proofs.Sound.{upTo, accepted-sound}
 
 -- a word due, a read, and exits that stand in another card already
-pub due-sound : (ws : List ℕ) (p k : ℕ) (ts : List Test) → p < length ws → kind (word ws p) ≡ k → Passed ts → firstBroken (due ws p k ts) ≡ Sound
-due-sound ws p k ts l e t = passed-sound (due ws p k ts) (lt-leb (length ws) p l, (agree (kind (word ws p)) k e, t))
+pub due-sound : (ws : List ℕ) (p k : ℕ) (ts : List Test) → p < length ws → kind (word ws p) ≡ k → Passed ts → firstBroken (dueTests ws p k ts) ≡ Sound
+due-sound ws p k ts l e t = passed-sound (dueTests ws p k ts) (lt-leb (length ws) p l, (agree (kind (word ws p)) k e, t))
 
 read-sound : (ws : List ℕ) (g p : ℕ) → Read ws g p → readVerdict ws g p ≡ Sound
 unfolding readVerdict
@@ -58,18 +58,18 @@ module _ (ws : List ℕ) (g k : ℕ) where
   abbrev pub exitsAt : ℕ
   exitsAt = g + 2 + 2 * (first ws g + k)
 
-  read-at : place (upTo ws g) + 1 + 2 * k ≡ readAt
+  read-at : cardLength (upTo ws g) + 1 + 2 * k ≡ readAt
   read-at = omega arith
 
-  exits-at : place (upTo ws g) + 2 + 2 * k ≡ exitsAt
+  exits-at : cardLength (upTo ws g) + 2 + 2 * k ≡ exitsAt
   exits-at = omega arith
 
 -- whether each of n nodes is named goes by the exits
 pub unnamed-same : (ws js : List ℕ) (g h n : ℕ) → ((k : ℕ) → k < n → word js (exitsAt js h k) ≡ word ws (exitsAt ws g k))
-    → unnamed js (place (upTo js h)) n ≡ unnamed ws (place (upTo ws g)) n
+    → unnamed js (cardLength (upTo js h)) n ≡ unnamed ws (cardLength (upTo ws g)) n
 unfolding unnamed
 unnamed-same ws js g h n e =
-    some-same _ _ (n - 1) (λ i l. ap not (some-same (names js (place (upTo js h)) (suc i)) (names ws (place (upTo ws g)) (suc i)) n (λ k m.
+    some-same _ _ (n - 1) (λ i l. ap not (some-same (names js (cardLength (upTo js h)) (suc i)) (names ws (cardLength (upTo ws g)) (suc i)) n (λ k m.
     rw (exits-at js h k, exits-at ws g k, e k m))))
 
 -- AN OUTPUT, graph g of a card: its header, its nodes at their places, and that each is named
@@ -81,22 +81,22 @@ pub record Output (ws : List ℕ) (g : ℕ) : Type 0 where
   pub total : first ws g + size ws g ≤ 4096
   pub reading : (k : ℕ) → k < size ws g → Read ws g (readAt ws g k)
   pub leaving : (k : ℕ) → k < size ws g → exitsVerdict ws (size ws g) k (exitsAt ws g k) ≡ Sound
-  pub named : unnamed ws (place (upTo ws g)) (size ws g) ≡ false
+  pub named : unnamed ws (cardLength (upTo ws g)) (size ws g) ≡ false
 
 module _ (ws : List ℕ) (g : ℕ) where
   abbrev c : Counts
   c = upTo ws g
 
   abbrev nameTests : List Test
-  nameTests = test (unnamed ws (place c) (size ws g)) NodeNotNamed (place c) ∷ []
+  nameTests = test (unnamed ws (cardLength c) (size ws g)) NodeNotNamed (cardLength c) ∷ []
 
   pub output-told : isInput ws g ≡ false → graphVerdict ws c ≡ Sound → Output ws g
   unfolding graphVerdict isInput size
   output-told z e =
       let (h, e′) = then-sound (headerVerdict (header ws g) c) _ e in
-      let (n, u) = then-sound (nodesVerdict ws g (place c) (size ws g) (size ws g) 0) (firstBroken nameTests) e′ in
+      let (n, u) = then-sound (nodesVerdict ws g (cardLength c) (size ws g) (size ws g) 0) (firstBroken nameTests) e′ in
       let t = all-passed (outputTests (header ws g) c) (rw z at (header-sound (header ws g) c h .1)) in
-      let node = nodes-sound ws g (place c) (size ws g) (size ws g) 0 n in
+      let node = nodes-sound ws g (cardLength c) (size ws g) (size ws g) 0 n in
       record {
         few = header-sound (header ws g) c h .0;
         kinds = omega (arith, eqb-false (kind (header ws g)) 0 z, ltb-false 2 (kind (header ws g)) (t .0));
@@ -111,7 +111,7 @@ module _ (ws : List ℕ) (g : ℕ) where
   pub output-sound : Output ws g → graphVerdict ws c ≡ Sound
   unfolding graphVerdict headerVerdict size
   output-sound o =
-      sound-then (sound-then (passed-sound (test (leb 1024 g) TooManyGraphs (place c) ∷ []) (lt-leb 1024 g (o .few), tt))
+      sound-then (sound-then (passed-sound (test (leb 1024 g) TooManyGraphs (cardLength c) ∷ []) (lt-leb 1024 g (o .few), tt))
       (rw (ne-eqb (kind (header ws g)) 0 (λ z. omega (arith, o .kinds)))
       (passed-sound (outputTests (header ws g) c) (
         le-ltb 2 (kind (header ws g)) (omega (arith, o .kinds)),
@@ -120,7 +120,7 @@ module _ (ws : List ℕ) (g : ℕ) where
           (rw (ne-eqb (nodeCount (header ws g)) 0 (λ z. omega (arith, o .some)), le-ltb 4096 (first ws g + nodeCount (header ws g)) (o .total)), tt),
         ),
       ))))
-      (sound-then (nodes-all ws g (place c) (size ws g) (size ws g) 0 (λ k l m.
+      (sound-then (nodes-all ws g (cardLength c) (size ws g) (size ws g) 0 (λ k l m.
       (rw (read-at ws g k) (read-sound ws g (readAt ws g k) (o .reading k (omega arith))), rw (exits-at ws g k) (o .leaving k (omega arith)))))
       (passed-sound nameTests (o .named, tt)))
 

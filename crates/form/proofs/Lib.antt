@@ -5,4 +5,5 @@ pub mod Checked
 pub mod Sound
 pub mod Graphs
 pub mod Positions
+pub mod Clip
 pub mod Examples

@@ -15,7 +15,7 @@ use Rattle.answers.specs.declared.Verdict.the-variants.{Sound}
 use Rattle.answers.specs.declared.Answer.the-variants.{Accepted}
 use Rattle.answers.specs.Tests.{test, firstBroken}
 use Rattle.answers.proofs.Tests.{passed-sound, onward-accepts, accepts-onward}
-use Rattle.form.specs.Check.{counts, place, withGraph, graphVerdict, ended, rest, longTests, checkedWith, checked}
+use Rattle.form.specs.Check.{counts, cardLength, withGraph, graphVerdict, ended, rest, longTests, checkedWith, checked}
 use Rattle.layout.specs.Layout.{first, header, isInput, observable}
 use Rattle.layout.proofs.Firsts.{first-next, first-more}
 
@@ -46,10 +46,10 @@ module _ (ws : List ℕ) where
   rest-sound : (extra left g : ℕ) (d : Counts) → rest ws extra left (upTo g) ≡ Accepted d → AllSound g d
   unfolding rest
   rest-sound extra zero g d e = let z : _≡_ {A = ℕ} 0 1 = cc in absurd (omega arith)
-  rest-sound extra (suc left) g d e = elim (decLe (length ws) (place (upTo g))) [
-    | yes l ↦ ended-sound extra g d (rw (le-leb (length ws) (place (upTo g)) l) at e)
+  rest-sound extra (suc left) g d e = elim (decLe (length ws) (cardLength (upTo g))) [
+    | yes l ↦ ended-sound extra g d (rw (le-leb (length ws) (cardLength (upTo g)) l) at e)
     | no n ↦
-        let (v, e′) = onward-accepts (graphVerdict ws (upTo g)) _ d (rw (lt-leb (length ws) (place (upTo g)) (omega arith)) at e) in
+        let (v, e′) = onward-accepts (graphVerdict ws (upTo g)) _ d (rw (lt-leb (length ws) (cardLength (upTo g)) (omega arith)) at e) in
         let (same, all) = rest-sound extra left (suc g) d (rw (upTo-next g) at e′) in
         (same, λ h l m. elim (ℕ-discrete h g) [ yes z ↦ rw z v | no o ↦ all h (omega arith) m ])
   ]
@@ -62,18 +62,18 @@ module _ (ws : List ℕ) where
       (same, λ g l. all g (omega arith) l)
 
   -- and the other way: G sound graphs that are all words are a card
-  module _ (G : ℕ) (long : length ws ≡ place (upTo G)) (some : 0 < count (observable ws) G)
+  module _ (G : ℕ) (long : length ws ≡ cardLength (upTo G)) (some : 0 < count (observable ws) G)
       (all : (g : ℕ) → g < G → graphVerdict ws (upTo g) ≡ Sound) where
     rest-accepted : (d left g : ℕ) → g + d ≡ G → d < left → rest ws 0 left (upTo g) ≡ Accepted (upTo G)
     unfolding rest
     rest-accepted d zero g e l = absurd (omega arith)
     rest-accepted zero (suc left) g e l =
         let z : g ≡ G = omega arith in
-        rw (z, le-leb (length ws) (place (upTo G)) (omega arith), ne-eqb (count (observable ws) G) 0 (λ n. omega arith))
+        rw (z, le-leb (length ws) (cardLength (upTo G)) (omega arith), ne-eqb (count (observable ws) G) 0 (λ n. omega arith))
     rest-accepted (suc d) (suc left) g e l =
         let z : suc g + d ≡ G = omega arith in
         let m : first ws (suc g) ≤ first ws G = rw z at (first-more ws (suc g) d) in
-        rw (lt-leb (length ws) (place (upTo g)) (omega (arith, first-next ws g)), all g (omega arith), upTo-next g)
+        rw (lt-leb (length ws) (cardLength (upTo g)) (omega (arith, first-next ws g)), all g (omega arith), upTo-next g)
         (rest-accepted d left (suc g) z (omega arith))
 
     pub sound-accepted : G ≤ 1024 → first ws G ≤ 4096 → checked ws ≡ Accepted (upTo G)

@@ -15,20 +15,20 @@ use Rattle.answers.specs.declared.Rule.the-variants.{TooManyGraphs, StrayBit, R
 use Rattle.answers.specs.declared.Counts.{Counts}
 use Rattle.answers.specs.declared.Verdict.the-variants.{Sound}
 use Rattle.answers.specs.Tests.{Test, test, unless, firstBroken}
-use Rattle.form.specs.Check.{due, place, inputTests, outputTests, headerVerdict, misplaced, word, readVerdict, exitsVerdict, nodeVerdict, nodesVerdict}
+use Rattle.form.specs.Check.{dueTests, cardLength, inputTests, outputTests, headerVerdict, misplaced, word, readVerdict, exitsVerdict, nodeVerdict, nodesVerdict}
 
 -- a sound header w: of an input it is all zero, of an output it counts some nodes and not too many
 module _ (w : ℕ) (c : Counts) (e : headerVerdict w c ≡ Sound) where
-  pub header-sound : (c .graphs < 1024) × (unless (eqb (kind w) 0) (firstBroken (inputTests w (place c) c)) (firstBroken (outputTests w c)) ≡ Sound)
+  pub header-sound : (c .graphs < 1024) × (unless (eqb (kind w) 0) (firstBroken (inputTests w (cardLength c) c)) (firstBroken (outputTests w c)) ≡ Sound)
   unfolding headerVerdict
   header-sound =
-      let few = test (leb 1024 (c .graphs)) TooManyGraphs (place c) ∷ [] in
+      let few = test (leb 1024 (c .graphs)) TooManyGraphs (cardLength c) ∷ [] in
       let (a, b) = then-sound (firstBroken few) _ e in
       (leb-false 1024 (c .graphs) (all-passed few a .0), b)
 
   pub an-input : eqb (kind w) 0 ≡ true → (c .graphs ≤ c .inputs) × (nodeCount w ≡ 0)
   an-input z =
-      let t = all-passed (inputTests w (place c) c) (rw z at (header-sound .1)) in
+      let t = all-passed (inputTests w (cardLength c) c) (rw z at (header-sound .1)) in
       (ltb-false (c .inputs) (c .graphs) (t .0), omega (arith, eqb-true (kind w) 0 z, eqb-true (inputSpare w) 0 (not-false _ (t .1 .0))))
 
   pub an-output : eqb (kind w) 0 ≡ false → (0 < nodeCount w) × (c .nodes + nodeCount w ≤ 4096)
@@ -68,9 +68,9 @@ exitsTests n k w p =
 
 -- sound nodes: a word due, a read, both exits, and all nodes from local node k on
 module _ (ws : List ℕ) where
-  pub due-told : (p k : ℕ) (ts : List Test) → firstBroken (due ws p k ts) ≡ Sound → (p < length ws) × ((kind (word ws p) ≡ k) × Passed ts)
+  pub due-told : (p k : ℕ) (ts : List Test) → firstBroken (dueTests ws p k ts) ≡ Sound → (p < length ws) × ((kind (word ws p) ≡ k) × Passed ts)
   due-told p k ts e =
-      let t = all-passed (due ws p k ts) e in
+      let t = all-passed (dueTests ws p k ts) e in
       (leb-false (length ws) p (t .0), (eqb-true (kind (word ws p)) k (not-false _ (t .1 .0)), t .1 .1))
 
   pub read-told : (g p : ℕ) → readVerdict ws g p ≡ Sound → Read ws g p

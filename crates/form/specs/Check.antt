@@ -6,7 +6,8 @@ use mathlib.Core.Bool.{Bool, true, false, not, _&&_, _||_}
 use lib.ListN.{length, getD}
 use lib.Dec.{ltb, leb, eqb}
 use Rattle.lists.specs.Counting.{choose, some-below}
-use Rattle.answers.specs.Answers.{Told, answerTold}
+use Rattle.answers.specs.Calls.{Lent}
+use Rattle.answers.specs.Limits.{maxGraphs, maxNodes, maxWords}
 use Rattle.answers.specs.Tests.{Test, test, unless, firstBroken, andThen, onward}
 use Rattle.word32.specs.Fields.{kind, inputSpare, headerSpare, readSpare, exitsSpare, nodeCount, readGraph, exitOf}
 use Rattle.answers.specs.declared.Rule.the-variants.{CardTooLong, TooManyGraphs, NodeCount, WordNotDue, StrayBit, ReadNotBelow, ExitNotLater}
@@ -21,9 +22,9 @@ use Rattle.answers.specs.declared.Answer.the-variants.{Accepted, Refused}
 abbrev pub counts : ℕ → ℕ → ℕ → ℕ → Counts
 counts i g n o = record { inputs = i; graphs = g; nodes = n; observable = o; faults = 2 * n + 2 * g }
 
--- the place due after the graphs that c counts: each has a header, and each node two words
-abbrev pub place : Counts → ℕ
-place c = c .graphs + 2 * c .nodes
+-- how many words the graphs that c counts have, and so the place due after them: each has a header, and each node two words
+abbrev pub cardLength : Counts → ℕ
+cardLength c = c .graphs + 2 * c .nodes
 
 -- the counts with one graph more, whose header is w: kind 0 is an input, 1 hidden, 2 observable
 abbrev pub withGraph : ℕ → Counts → Counts
@@ -39,15 +40,15 @@ inputTests w p c =
 
 abbrev pub outputTests : ℕ → Counts → List Test
 outputTests w c =
-    test (ltb 2 (kind w)) WordNotDue (place c)
-    ∷ test (not (eqb (headerSpare w) 0)) StrayBit (place c)
-    ∷ test (eqb (nodeCount w) 0 || ltb 4096 (c .nodes + nodeCount w)) NodeCount (place c)
+    test (ltb 2 (kind w)) WordNotDue (cardLength c)
+    ∷ test (not (eqb (headerSpare w) 0)) StrayBit (cardLength c)
+    ∷ test (eqb (nodeCount w) 0 || ltb maxNodes (c .nodes + nodeCount w)) NodeCount (cardLength c)
     ∷ []
 
 unfoldable pub headerVerdict : ℕ → Counts → Verdict
 headerVerdict w c =
-    andThen (firstBroken (test (leb 1024 (c .graphs)) TooManyGraphs (place c) ∷ []))
-    (unless (eqb (kind w) 0) (firstBroken (inputTests w (place c) c)) (firstBroken (outputTests w c)))
+    andThen (firstBroken (test (leb maxGraphs (c .graphs)) TooManyGraphs (cardLength c) ∷ []))
+    (unless (eqb (kind w) 0) (firstBroken (inputTests w (cardLength c) c)) (firstBroken (outputTests w c)))
 
 -- exit e of local node k in a graph of n nodes is no constant, and goes to a node not later, or not in the graph
 unfoldable pub misplaced : ℕ → ℕ → ℕ → Bool
@@ -58,14 +59,14 @@ module _ (ws : List ℕ) where
   word p = getD ws p 0
 
   -- a word of kind k is due at p, and then passes the tests ts
-  abbrev pub due : ℕ → ℕ → List Test → List Test
-  due p k ts = test (leb (length ws) p) WordNotDue (length ws) ∷ test (not (eqb (kind (word p)) k)) WordNotDue p ∷ ts
+  abbrev pub dueTests : ℕ → ℕ → List Test → List Test
+  dueTests p k ts = test (leb (length ws) p) WordNotDue (length ws) ∷ test (not (eqb (kind (word p)) k)) WordNotDue p ∷ ts
 
   -- the word at p is a read in graph g
   unfoldable pub readVerdict : ℕ → ℕ → Verdict
   readVerdict g p =
       firstBroken
-      (due p 3
+      (dueTests p 3
       (test (not (eqb (readSpare (word p)) 0)) StrayBit p
       ∷ test (leb g (readGraph (word p))) ReadNotBelow p
       ∷ []))
@@ -75,7 +76,7 @@ module _ (ws : List ℕ) where
   unfolding misplaced
   exitsVerdict n k p =
       firstBroken
-      (due p 4
+      (dueTests p 4
       (test (not (eqb (exitsSpare (word p)) 0)) StrayBit p
       ∷ test (misplaced n k (exitOf (word p) 0) || misplaced n k (exitOf (word p) 1)) ExitNotLater p
       ∷ []))
@@ -106,9 +107,9 @@ module _ (ws : List ℕ) where
   unfoldable pub graphVerdict : Counts → Verdict
   unfolding headerVerdict nodesVerdict unnamed
   graphVerdict c =
-      andThen (headerVerdict (word (place c)) c)
-      (andThen (nodesVerdict (c .graphs) (place c) (nodeCount (word (place c))) (nodeCount (word (place c))) 0)
-      (firstBroken (test (unnamed (place c) (nodeCount (word (place c)))) NodeNotNamed (place c) ∷ [])))
+      andThen (headerVerdict (word (cardLength c)) c)
+      (andThen (nodesVerdict (c .graphs) (cardLength c) (nodeCount (word (cardLength c))) (nodeCount (word (cardLength c))) 0)
+      (firstBroken (test (unnamed (cardLength c) (nodeCount (word (cardLength c)))) NodeNotNamed (cardLength c) ∷ [])))
 
   -- the words end after the graphs that c counts, and `extra` bytes that are no word follow
   abbrev pub ended : ℕ → Counts → Answer
@@ -124,24 +125,24 @@ module _ (ws : List ℕ) where
   -- the graphs from the place due on; the number bounds those to come, and 1,024 graphs at most are read
   unfoldable pub rest : ℕ → ℕ → Counts → Answer
   unfolding graphVerdict
-  rest extra zero c = Refused TooManyGraphs (place c)
+  rest extra zero c = Refused TooManyGraphs (cardLength c)
   rest extra (suc left) c =
-      either (leb (length ws) (place c)) (ended extra c)
-      (onward (graphVerdict c) (rest extra left (withGraph (word (place c)) c)))
+      either (leb (length ws) (cardLength c)) (ended extra c)
+      (onward (graphVerdict c) (rest extra left (withGraph (word (cardLength c)) c)))
 
   -- rule 1: the words are not too many
   abbrev pub longTests : List Test
-  longTests = test (ltb 9216 (length ws)) CardTooLong 0 ∷ []
+  longTests = test (ltb maxWords (length ws)) CardTooLong 0 ∷ []
 
   -- a card of these words and `extra` bytes more
   unfoldable pub checkedWith : ℕ → Answer
   unfolding rest
-  checkedWith extra = onward (firstBroken longTests) (rest extra 1025 (counts 0 0 0 0))
+  checkedWith extra = onward (firstBroken longTests) (rest extra (maxGraphs + 1) (counts 0 0 0 0))
 
   -- THE CHECK of a card
   abbrev pub checked : Answer
   checked = checkedWith 0
 
-  -- the same in document 01's numbers
-  abbrev pub checkTold : Told
-  checkTold = answerTold checked
+-- the check of a card that is lent: bytes left over are rule 4 at the word count, just before rule 9
+abbrev pub lentCheck : Lent → Answer
+lentCheck card = checkedWith (card .words) (card .extra)

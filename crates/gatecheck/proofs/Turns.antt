@@ -18,7 +18,7 @@ use Rattle.answers.specs.declared.Answer.the-variants.{Refused}
 use Rattle.answers.specs.Tests.{andThen}
 use Rattle.answers.proofs.Tests.{then-sound}
 use Rattle.form.specs.Check.{counts, word, withGraph, ended}
-use Rattle.gatelist.specs.Form.{place, headerVerdict, leadVerdict, leadsVerdict, lineVerdict, rest, listedWith}
+use Rattle.gatelist.specs.Form.{gateListLength, headerVerdict, leadVerdict, leadsVerdict, lineVerdict, rest, gatesCheckedWith}
 use Rattle.gatelist.proofs.Sound.{header-sound, header-few}
 use Rattle.cardcheck.specs.Graph.{Few}
 
@@ -54,23 +54,23 @@ module _ (gs : List ℕ) (line n p : ℕ) where
 
 -- a line, by its header and its leads
 module _ (gs : List ℕ) (c : Counts) where
-  pub line-stop : {r : Rule} {q : ℕ} → headerVerdict (word gs (place c)) c ≡ Broken r q → headerVerdict (word gs (place c)) c ≡ lineVerdict gs c
+  pub line-stop : {r : Rule} {q : ℕ} → headerVerdict (word gs (gateListLength c)) c ≡ Broken r q → headerVerdict (word gs (gateListLength c)) c ≡ lineVerdict gs c
   unfolding lineVerdict
   line-stop e = stops _ _ e
 
-  pub line-go : headerVerdict (word gs (place c)) c ≡ Sound
-      → leadsVerdict gs (c .graphs) (leadCount (word gs (place c))) (place c + 1) ≡ lineVerdict gs c
+  pub line-go : headerVerdict (word gs (gateListLength c)) c ≡ Sound
+      → leadsVerdict gs (c .graphs) (leadCount (word gs (gateListLength c))) (gateListLength c + 1) ≡ lineVerdict gs c
   unfolding lineVerdict
   line-go e = rw (e, add-one)
 
 -- a list that is too long, and one that is not
 module _ (gs : List ℕ) (extra : ℕ) where
-  pub too-long : 9216 < length gs → Refused CardTooLong 0 ≡ listedWith gs extra
-  unfolding listedWith
+  pub too-long : 9216 < length gs → Refused CardTooLong 0 ≡ gatesCheckedWith gs extra
+  unfolding gatesCheckedWith
   too-long h = rw (lt-ltb _ _ h)
 
-  pub not-long : length gs ≤ 9216 → rest gs extra 1025 (counts 0 0 0 0) ≡ listedWith gs extra
-  unfolding listedWith
+  pub not-long : length gs ≤ 9216 → rest gs extra 1025 (counts 0 0 0 0) ≡ gatesCheckedWith gs extra
+  unfolding gatesCheckedWith
   not-long h = rw (le-ltb _ _ h)
 
 -- the lines from the place due on
@@ -78,12 +78,12 @@ module _ (gs : List ℕ) (extra : ℕ) (c : Counts) (few : c .graphs ≤ 1024) w
   more : 1025 - c .graphs ≡ suc (1025 - (c .graphs + 1))
   more = omega arith
 
-  pub rest-end : length gs ≤ place c → rest gs extra (1025 - c .graphs) c ≡ ended gs extra c
+  pub rest-end : length gs ≤ gateListLength c → rest gs extra (1025 - c .graphs) c ≡ ended gs extra c
   unfolding rest
   rest-end h = rw (more, le-leb _ _ h)
 
-  module _ (h : place c < length gs) where
-    pub rest-go : lineVerdict gs c ≡ Sound → rest gs extra (1025 - c .graphs) c ≡ rest gs extra (1025 - (c .graphs + 1)) (withGraph (word gs (place c)) c)
+  module _ (h : gateListLength c < length gs) where
+    pub rest-go : lineVerdict gs c ≡ Sound → rest gs extra (1025 - c .graphs) c ≡ rest gs extra (1025 - (c .graphs + 1)) (withGraph (word gs (gateListLength c)) c)
     unfolding rest
     rest-go e = rw (more, lt-leb _ _ h, e)
 
@@ -93,7 +93,7 @@ module _ (gs : List ℕ) (extra : ℕ) (c : Counts) (few : c .graphs ≤ 1024) w
 
 -- where the check of the lines stands: at the place due after some lines, which are sound
 pub record Reading (gs : List ℕ) (extra : ℕ) (c : Counts) (at : ℕ) : Type 0 where
-  pub here : at ≡ place c
+  pub here : at ≡ gateListLength c
   pub same : rest gs extra 1025 (counts 0 0 0 0) ≡ rest gs extra (1025 - c .graphs) c
   pub lines : c .graphs ≤ 1024
   pub leads : c .nodes ≤ 4096
@@ -123,22 +123,22 @@ module _ {gs : List ℕ} {extra : ℕ} {c : Counts} {at : ℕ} (y : Reading gs e
   reading-over h = y .same ∙ rest-end gs extra c (y .lines) (omega (arith, y .here))
 
   module _ (h : at < length gs) where
-    inside : place c < length gs
+    inside : gateListLength c < length gs
     inside = omega (arith, y .here)
 
     pub reading-stop : {r : Rule} {q : ℕ} → lineVerdict gs c ≡ Broken r q → rest gs extra 1025 (counts 0 0 0 0) ≡ Refused r q
     reading-stop e = y .same ∙ rest-stop gs extra c (y .lines) inside e
 
-    pub reading-next : {w : ℕ} {d : Counts} → lineVerdict gs c ≡ Sound → w ≡ word gs at → d ≡ withGraph w c → Reading gs extra d (place d)
+    pub reading-next : {w : ℕ} {d : Counts} → lineVerdict gs c ≡ Sound → w ≡ word gs at → d ≡ withGraph w c → Reading gs extra d (gateListLength d)
     unfolding lineVerdict
     reading-next {w} {d} e p q =
-        let z : w ≡ word gs (place c) = p ∙ ap (word gs) (y .here) in
-        let s = then-sound (headerVerdict (word gs (place c)) c) _ e .0 in
+        let z : w ≡ word gs (gateListLength c) = p ∙ ap (word gs) (y .here) in
+        let s = then-sound (headerVerdict (word gs (gateListLength c)) c) _ e .0 in
         rw (q, z) record {
           here = refl;
           same = y .same ∙ rest-go gs extra c (y .lines) inside e;
-          lines = omega (arith, header-sound (word gs (place c)) c s .0);
-          leads = header-few (word gs (place c)) c (y .leads) s;
-          inputs = omega (arith, y .inputs, choose-bit (eqb (kind (word gs (place c))) 0) 1 0 (omega arith) (omega arith));
-          observable = omega (arith, y .observable, choose-bit (eqb (kind (word gs (place c))) 2) 1 0 (omega arith) (omega arith));
+          lines = omega (arith, header-sound (word gs (gateListLength c)) c s .0);
+          leads = header-few (word gs (gateListLength c)) c (y .leads) s;
+          inputs = omega (arith, y .inputs, choose-bit (eqb (kind (word gs (gateListLength c))) 0) 1 0 (omega arith) (omega arith));
+          observable = omega (arith, y .observable, choose-bit (eqb (kind (word gs (gateListLength c))) 2) 1 0 (omega arith) (omega arith));
         }

@@ -1,12 +1,16 @@
 // The check of a gate list: its counts, or the first rule that it breaks, and where. It goes through the words once, forward.
 ghost use mathlib.Core.Path.{_≡_};
-ghost use Prim.Native.Nat.{_≤_, _<_};
+ghost use Prim.Native.Nat.{_+_, _≤_, _<_};
 ghost use lib.ListN.{length};
+ghost use Rattle.answers.specs.Limits.{maxGraphs, maxNodes, maxWords};
 ghost use Rattle.answers.specs.Tests.{firstBroken};
 ghost use Rattle.form.specs.Check.{counts};
-ghost use Rattle.gatelist.specs.Form.{place, wrongGate, gateTests, headerVerdict, leadVerdict, leadsVerdict, lineVerdict, rest, listedWith};
+ghost use Rattle.gatelist.specs.Form.{gateListLength, wrongGate, gateTests, headerVerdict, leadVerdict, leadsVerdict, lineVerdict, rest, gatesCheckedWith};
 use answers::Answer;
 use answers::Counts;
+use answers::MAX_GRAPHS;
+use answers::MAX_NODES;
+use answers::MAX_WORDS;
 use answers::Rule;
 use answers::Verdict;
 
@@ -28,7 +32,7 @@ fn is_wrong_gate(f: u32, n: usize) -> bool
 
 // A gate's header.
 fn check_gate(w: u32, at: usize, c: Counts) -> Verdict
-    requires { ⌜ (at ≡ place c) × (c .nodes ≤ 4096) ⌝ }
+    requires { ⌜ (at ≡ gateListLength c) × (c .nodes ≤ maxNodes) ⌝ }
     ensures { λ r. ⌜ r ≡ firstBroken (gateTests w c) ⌝ }
 {
     let n = word32::node_count(w);
@@ -38,7 +42,7 @@ fn check_gate(w: u32, at: usize, c: Counts) -> Verdict
     if word32::gate_spare(w) != 0 {
         return Verdict::Broken(Rule::StrayBit, at);
     }
-    if 4096 < c.nodes + n {
+    if MAX_NODES < c.nodes + n {
         return Verdict::Broken(Rule::NodeCount, at);
     }
     if is_wrong_gate(word32::gate_function(w), n) {
@@ -49,10 +53,10 @@ fn check_gate(w: u32, at: usize, c: Counts) -> Verdict
 
 // Any header.
 fn check_header(w: u32, at: usize, c: Counts) -> Verdict
-    requires { ⌜ (at ≡ place c) × (c .nodes ≤ 4096) ⌝ }
+    requires { ⌜ (at ≡ gateListLength c) × (c .nodes ≤ maxNodes) ⌝ }
     ensures { λ r. ⌜ r ≡ headerVerdict w c ⌝ }
 {
-    if 1024 <= c.graphs {
+    if MAX_GRAPHS <= c.graphs {
         return Verdict::Broken(Rule::TooManyGraphs, at);
     }
     if word32::kind(w) == 0 {
@@ -83,7 +87,7 @@ fn check_lead(gates: &[u32], line: usize, p: usize) -> Verdict
 
 // The n leads of a line, from p on.
 fn check_leads(gates: &[u32], line: usize, n: usize, p: usize) -> Verdict
-    requires { ⌜ (n ≤ 4096) × (p ≤ 9216) ⌝ }
+    requires { ⌜ (n ≤ maxNodes) × (p ≤ maxWords) ⌝ }
     ensures { λ r. ⌜ r ≡ leadsVerdict (now (gates .entry)) line n p ⌝ }
 {
     let mut k = 0;
@@ -99,7 +103,7 @@ fn check_leads(gates: &[u32], line: usize, n: usize, p: usize) -> Verdict
 
 // The line whose header stands at the place due.
 fn check_line(gates: &[u32], at: usize, c: Counts) -> Verdict
-    requires { ⌜ (at ≡ place c) × (at < length (now gates)) × (length (now gates) ≤ 9216) × (c .nodes ≤ 4096) ⌝ }
+    requires { ⌜ (at ≡ gateListLength c) × (at < length (now gates)) × (length (now gates) ≤ maxWords) × (c .nodes ≤ maxNodes) ⌝ }
     ensures { λ r. ⌜ r ≡ lineVerdict (now (gates .entry)) c ⌝ }
 {
     let w = lists::get(gates, at);
@@ -112,8 +116,8 @@ fn check_line(gates: &[u32], at: usize, c: Counts) -> Verdict
 
 // All the words, and so many bytes after them that make no word.
 fn check_lines(gates: &[u32], extra: usize) -> Answer
-    requires { ⌜ length (now gates) ≤ 9216 ⌝ }
-    ensures { λ r. ⌜ r ≡ rest (now (gates .entry)) extra 1025 (counts 0 0 0 0) ⌝ }
+    requires { ⌜ length (now gates) ≤ maxWords ⌝ }
+    ensures { λ r. ⌜ r ≡ rest (now (gates .entry)) extra (maxGraphs + 1) (counts 0 0 0 0) ⌝ }
 {
     let mut c = Counts {
         inputs: 0,
@@ -135,9 +139,9 @@ fn check_lines(gates: &[u32], extra: usize) -> Answer
 
 // The check of a gate list whose words are followed by so many bytes that make no word.
 pub fn check_with(gates: &[u32], extra: usize) -> Answer
-    ensures { λ r. ⌜ r ≡ listedWith (now (gates .entry)) extra ⌝ }
+    ensures { λ r. ⌜ r ≡ gatesCheckedWith (now (gates .entry)) extra ⌝ }
 {
-    if 9216 < gates.len() {
+    if MAX_WORDS < gates.len() {
         return Answer::Refused(Rule::CardTooLong, 0);
     }
     check_lines(gates, extra)

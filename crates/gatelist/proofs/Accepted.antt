@@ -17,33 +17,33 @@ use Rattle.answers.specs.declared.Verdict.the-variants.{Sound}
 use Rattle.answers.specs.declared.Answer.the-variants.{Accepted}
 use Rattle.layout.specs.Layout.{first, isInput, observable, exits, inverts}
 use Rattle.value.specs.Direct.{Direct}
-use Rattle.form.specs.Check.{place, word, misplaced, exitsVerdict, unnamed, names, graphVerdict, checked}
+use Rattle.form.specs.Check.{cardLength, word, misplaced, exitsVerdict, unnamed, names, graphVerdict, checked}
 use Rattle.form.proofs.Sound.{upTo, sound-accepted}
 use Rattle.form.proofs.Verdicts.{Read, exitsTests}
 use Rattle.form.proofs.Graphs.{Output, readAt, exitsAt, due-sound, output-sound, input-sound}
-use Rattle.gatelist.specs.Lines.{inputLine, observableLine, function, leads, leadWord, named}
+use Rattle.gatelist.specs.Lines.{inputLine, observableLine, function, leads, leadWord, namedLine}
 use Rattle.gatelist.specs.Lines as lines
-use Rattle.gatelist.specs.Drawn.{ends, constant, gateExit, drawn}
-use Rattle.gatelist.specs.Listed.{Gate, Listed}
+use Rattle.gatelist.specs.Drawn.{controlling, constant, gateExit, drawn}
+use Rattle.gatelist.specs.AcceptsGates.{Gate, AcceptsGates}
 use Rattle.gatelist.proofs.Lines.{lead-next, lead-few, card-long}
-use Rattle.gatelist.proofs.Walk.{gate-right, ends-bit, constant-bit}
+use Rattle.gatelist.proofs.Walk.{gate-right, controlling-bit, constant-bit}
 use Rattle.gatelist.proofs.Written.{fields, header-is, size-is, read-word, exits-word, exits-told, exit-is, first-is, graph-of}
 
 -- AN EXIT goes to a constant, or to the next node
 exit-placed : (f n k d : ℕ) → d < 2 → misplaced n k (gateExit f n k d) ≡ false
 unfolding misplaced gateExit
-exit-placed f n k d l = by (eqb d (ends f) || leb n (k + 1)) refl
+exit-placed f n k d l = by (eqb d (controlling f) || leb n (k + 1)) refl
   where
-    by : (b : Bool) → eqb d (ends f) || leb n (k + 1) ≡ b → misplaced n k (choose b (constant f d) (k + 3)) ≡ false
+    by : (b : Bool) → eqb d (controlling f) || leb n (k + 1) ≡ b → misplaced n k (choose b (constant f d) (k + 3)) ≡ false
     by true e = rw (le-ltb 1 (constant f d) (omega (arith, constant-bit f d l)))
     by false e =
-        let m : k + 1 < n = leb-false n (k + 1) (or-false (eqb d (ends f)) (leb n (k + 1)) e .1) in
+        let m : k + 1 < n = leb-false n (k + 1) (or-false (eqb d (controlling f)) (leb n (k + 1)) e .1) in
         rw (lt-leb (k + 3) (k + 2) (omega arith), lt-leb (n + 2) (k + 3) (omega arith)) (and-false (ltb 1 (k + 3)))
 
 -- and every node but the last is left for the next one, at the value that does not decide
-exit-next : (f n k : ℕ) → k + 1 < n → gateExit f n k (1 - ends f) ≡ k + 3
+exit-next : (f n k : ℕ) → k + 1 < n → gateExit f n k (1 - controlling f) ≡ k + 3
 unfolding gateExit
-exit-next f n k l = rw (ne-eqb (1 - ends f) (ends f) (λ e. omega (arith, ends-bit f)), lt-leb n (k + 1) l)
+exit-next f n k l = rw (ne-eqb (1 - controlling f) (controlling f) (λ e. omega (arith, controlling-bit f)), lt-leb n (k + 1) l)
 
 -- one of two exits is v
 one-of : (e : ℕ → ℕ) (d v : ℕ) → d < 2 → e d ≡ v → eqb (e 0) v || eqb (e 1) v ≡ true
@@ -51,7 +51,7 @@ one-of e zero v l q = ap (_|| eqb (e 1) v) (eq-eqb (e 0) v q)
 one-of e (suc zero) v l q = ap (eqb (e 0) v ||_) (eq-eqb (e 1) v q) ∙ or-true (eqb (e 0) v)
 one-of e (suc (suc d)) v l q = absurd (omega arith)
 
-module _ {gs : List ℕ} {c : Counts} (a : Listed gs c) where
+module _ {gs : List ℕ} {c : Counts} (a : AcceptsGates gs c) where
   abbrev card : List ℕ
   card = drawn gs (c .graphs)
 
@@ -61,7 +61,7 @@ module _ {gs : List ℕ} {c : Counts} (a : Listed gs c) where
     inside = omega (arith, first-is a l (omega arith), lead-next gs l, lead-few a (suc l) h, card-long a)
 
     reads-good : (k : ℕ) → k < leads gs l → Read card l (readAt card l k)
-    unfolding named
+    unfolding namedLine
     reads-good k m =
         let e = read-word a l h k m in
         record {
@@ -87,21 +87,21 @@ module _ {gs : List ℕ} {c : Counts} (a : Listed gs c) where
         )
 
     -- node i names node i + 1
-    names-next : (i : ℕ) → i + 1 < leads gs l → names card (place (upTo card l)) (suc i) i ≡ true
+    names-next : (i : ℕ) → i + 1 < leads gs l → names card (cardLength (upTo card l)) (suc i) i ≡ true
     unfolding exits
     names-next i m =
-        let z : place (upTo card l) + 2 + 2 * i ≡ exitsAt card l i = omega arith in
+        let z : cardLength (upTo card l) + 2 + 2 * i ≡ exitsAt card l i = omega arith in
         let q : i + 3 ≡ suc i + 2 = omega arith in
-        let next : gateExit (function gs l) (leads gs l) i (1 - ends (function gs l)) ≡ suc i + 2 = exit-next (function gs l) (leads gs l) i m ∙ q in
+        let next : gateExit (function gs l) (leads gs l) i (1 - controlling (function gs l)) ≡ suc i + 2 = exit-next (function gs l) (leads gs l) i m ∙ q in
         rw z
-        (one-of (exits card l i) (1 - ends (function gs l)) (suc i + 2) (omega arith)
-        (exit-is a l h i (omega arith) (1 - ends (function gs l)) (omega arith) ∙ next))
+        (one-of (exits card l i) (1 - controlling (function gs l)) (suc i + 2) (omega arith)
+        (exit-is a l h i (omega arith) (1 - controlling (function gs l)) (omega arith) ∙ next))
 
-    all-named : unnamed card (place (upTo card l)) (leads gs l) ≡ false
+    all-named : unnamed card (cardLength (upTo card l)) (leads gs l) ≡ false
     unfolding unnamed
     all-named =
         some-none _ (leads gs l - 1) (λ i m.
-        ap not (some-has (names card (place (upTo card l)) (suc i)) (leads gs l) i (omega arith) (names-next i (omega arith))))
+        ap not (some-has (names card (cardLength (upTo card l)) (suc i)) (leads gs l) i (omega arith) (names-next i (omega arith))))
 
     gate-output : Output card l
     unfolding leads

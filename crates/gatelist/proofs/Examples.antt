@@ -4,10 +4,10 @@ use mathlib.Core.List.{List, [], _∷_, map}
 use mathlib.Core.Path.{_≡_, refl}
 use lib.ListN.{replicate}
 use Rattle.answers.specs.declared.Counts.{Counts}
-use Rattle.answers.specs.Answers.{Told, refusal, result, answerTold}
+use Rattle.answers.specs.Told.{Told, refusal, result, answerTold}
 use Rattle.form.specs.Check.{counts}
 use Rattle.value.specs.Settings.{faulty}
-use Rattle.gatelist.specs.Form.{listedWith}
+use Rattle.gatelist.specs.Form.{gatesCheckedWith}
 use Rattle.gatelist.specs.Gates.{lineValue}
 use Rattle.gatelist.specs.Drawn.{drawn}
 
@@ -128,8 +128,8 @@ refusals =
     ∷ []
 
 abbrev pub told : Checked → Checked
-told c = check (c .gates) (c .extra) (answerTold (listedWith (c .gates) (c .extra)))
+told c = check (c .gates) (c .extra) (answerTold (gatesCheckedWith (c .gates) (c .extra)))
 
 pub examples : (map answered table ≡ table) × (map told refusals ≡ refusals)
-unfolding drawn lineValue faulty listedWith answerTold
+unfolding drawn lineValue faulty gatesCheckedWith answerTold
 examples = (refl, refl)

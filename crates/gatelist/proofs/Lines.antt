@@ -11,7 +11,7 @@ use Rattle.word32.specs.Fields.{leadCount}
 use Rattle.answers.specs.declared.Counts.{Counts}
 use Rattle.gatelist.specs.Lines.{firstLead, leads}
 use Rattle.gatelist.specs.Drawn.{leadNodes, lineWords, drawn}
-use Rattle.gatelist.specs.Listed.{Listed}
+use Rattle.gatelist.specs.AcceptsGates.{AcceptsGates}
 
 module _ (gs : List ℕ) where
   pub lead-next : (l : ℕ) → firstLead gs (suc l) ≡ firstLead gs l + leads gs l
@@ -37,10 +37,10 @@ module _ (gs : List ℕ) where
   drawn-long (suc n) = omega (arith, chain-next (λ l. lineWords gs (l + firstLead gs l)) n, line-long (n + firstLead gs n), drawn-long n, lead-next n)
 
 -- of an accepted gate list: the leads before line l, and its card's words
-pub lead-few : {gs : List ℕ} {c : Counts} → Listed gs c → (l : ℕ) → l ≤ c .graphs → firstLead gs l ≤ c .nodes
+pub lead-few : {gs : List ℕ} {c : Counts} → AcceptsGates gs c → (l : ℕ) → l ≤ c .graphs → firstLead gs l ≤ c .nodes
 lead-few {gs} {c} a l h =
     let e : l + (c .graphs - l) ≡ c .graphs = omega arith in
     omega (arith, a .leads-in, rw e at (lead-more gs l (c .graphs - l)))
 
-pub card-long : {gs : List ℕ} {c : Counts} → Listed gs c → length (drawn gs (c .graphs)) ≡ c .graphs + 2 * c .nodes
+pub card-long : {gs : List ℕ} {c : Counts} → AcceptsGates gs c → length (drawn gs (c .graphs)) ≡ c .graphs + 2 * c .nodes
 card-long {gs} {c} a = omega (arith, drawn-long gs (c .graphs), a .leads-in)

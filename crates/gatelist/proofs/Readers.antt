@@ -14,19 +14,19 @@ use Rattle.lists.proofs.Counting.{count-shifted, count-next}
 use Rattle.word32.specs.Fields.{kind, leadLine}
 use Rattle.answers.specs.declared.Counts.{Counts}
 use Rattle.layout.specs.Shape.{Shape}
-use Rattle.cardtables.specs.Stems.{readBy, readers, hasStem, placeInGrade, inGrade}
+use Rattle.cardtables.specs.Stems.{readBy, readers, hasStem, siteInGrade, inGrade}
 use Rattle.cardtables.proofs.Stems.{read-in}
 use Rattle.form.proofs.Checked.{check-accepts}
-use Rattle.gatelist.specs.Lines.{firstLead, header, inputLine, leads, leadWord, named}
+use Rattle.gatelist.specs.Lines.{firstLead, header, inputLine, leads, leadWord, namedLine}
 use Rattle.gatelist.specs.Gates.{lineReaders, faultCounts}
 use Rattle.gatelist.specs.Drawn.{drawn}
-use Rattle.gatelist.specs.Listed.{Listed}
+use Rattle.gatelist.specs.AcceptsGates.{AcceptsGates}
 use Rattle.gatelist.specs.Same.{GraphOf}
 use Rattle.gatelist.proofs.Lines.{lead-next}
 use Rattle.gatelist.proofs.Written.{graph-of}
 use Rattle.gatelist.proofs.Accepted.{no-leads, drawn-accepted}
 
-module _ {gs : List ℕ} {c : Counts} (a : Listed gs c) where
+module _ {gs : List ℕ} {c : Counts} (a : AcceptsGates gs c) where
   abbrev card : List ℕ
   card = drawn gs (c .graphs)
 
@@ -52,13 +52,13 @@ module _ {gs : List ℕ} {c : Counts} (a : Listed gs c) where
           by false z = rw (ne-eqb (kind (header gs l)) 3 (λ e. omega (arith, a .gate l h z .hidden-or-not)))
 
       lead-node : (k : ℕ) → k < leads gs l → reads (firstLead gs l + k) ≡ names (l + firstLead gs l + 1 + k)
-      unfolding named
+      unfolding namedLine
       lead-node k m = by (inputLine gs l) refl
         where
           o : GraphOf gs c l
           o = graph-of a l h
 
-          node : readBy card c (firstLead gs l + k) ≡ named gs l k
+          node : readBy card c (firstLead gs l + k) ≡ namedLine gs l k
           node = rw (o .start) at (read-in accepts l h k (rw (o .many) m)) ∙ o .read k m
 
           by : (b : Bool) → inputLine gs l ≡ b → reads (firstLead gs l + k) ≡ names (l + firstLead gs l + 1 + k)
@@ -82,7 +82,7 @@ module _ {gs : List ℕ} {c : Counts} (a : Listed gs c) where
 
   -- THE SAME FAULTS COUNT
   pub drawn-counts : (f : ℕ) → f < c .faults → inGrade card c f ≡ faultCounts gs c f
-  unfolding inGrade placeInGrade hasStem faultCounts
+  unfolding inGrade siteInGrade hasStem faultCounts
   drawn-counts f l = elim (decLt (f / 2) (c .nodes)) [
     | yes m ↦ rw (lt-ltb (f / 2) (c .nodes) m)
     | no m ↦

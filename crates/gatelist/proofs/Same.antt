@@ -1,34 +1,35 @@
 -- THE CARD IS THE GATE LIST: what is caught, tallies and marks go by values, and these are equal. Assumes nothing.
 use Prim.Native.Nat.{ℕ}
-use mathlib.Core.Path.{_≡_, fun-ext}
+use mathlib.Core.Path.{_≡_}
 use mathlib.Core.List.{List, [], _∷_}
 use mathlib.Core.Bool.{not, _&&_}
-use lib.Dec.{ltb, eqb}
+use lib.Dec.{eqb}
 use Rattle.lists.proofs.Tests.{some-same}
 use Rattle.lists.proofs.Counting.{count-same}
 use Rattle.answers.specs.declared.Counts.{Counts}
 use Rattle.answers.specs.declared.Answer.the-variants.{Accepted}
 use Rattle.layout.specs.Layout.{observable}
-use Rattle.testvectors.specs.Vectors.{vector}
+use Rattle.testvectors.specs.Vectors.{vectors, vector}
 use Rattle.value.specs.Settings.{Setting, Keeps, good, faulty}
 use Rattle.value.specs.Values.{value}
 use Rattle.value.proofs.Settings.{good-keeps, faulty-keeps}
 use Rattle.detect.specs.Detects.{observed, detects}
 use Rattle.cardtables.specs.Stems.{inGrade, total}
 use Rattle.detect.specs.Grading.{detectedBy, tally, mark, marked}
+use Rattle.detect.proofs.Relation.{tallyOf-same, markOf-same, markedOf-same}
 use Rattle.gatelist.specs.Lines.{observableLine}
-use Rattle.gatelist.specs.Form.{listedWith}
-use Rattle.gatelist.specs.Gates.{shown, lineValue, gateDetects, gateDetectedBy, gateTally, gateMark, faultCounts, gateMarked, gateTotal}
+use Rattle.gatelist.specs.Form.{gatesCheckedWith}
+use Rattle.gatelist.specs.Gates.{shown, lineValue, gateDetects, gateDetectedBy, faultCounts, gateTotal}
 use Rattle.gatelist.specs.Drawn.{drawn}
-use Rattle.gatelist.specs.Listed.{Listed}
+use Rattle.gatelist.specs.AcceptsGates.{AcceptsGates}
 use Rattle.gatelist.specs.Same.{AsGates}
-use Rattle.gatelist.proofs.Sound.{listed-told}
+use Rattle.gatelist.proofs.Sound.{gates-check-accepts}
 use Rattle.gatelist.proofs.Written.{graph-of}
 use Rattle.gatelist.proofs.Accepted.{drawn-accepted, drawn-direct}
 use Rattle.gatelist.proofs.Values.{drawn-value}
 use Rattle.gatelist.proofs.Readers.{drawn-counts}
 
-module _ {gs : List ℕ} {c : Counts} (a : Listed gs c) where
+module _ {gs : List ℕ} {c : Counts} (a : AcceptsGates gs c) where
   abbrev card : List ℕ
   card = drawn gs (c .graphs)
 
@@ -44,31 +45,15 @@ module _ {gs : List ℕ} {c : Counts} (a : Listed gs c) where
   unfolding detects gateDetects
   drawn-catches x f = drawn-shows good (faulty (f ∷ [])) good-keeps (faulty-keeps (f ∷ [])) x
 
-  drawn-caught : (xs : List ℕ) (f : ℕ) → detectedBy card c xs f ≡ gateDetectedBy gs c xs f
-  unfolding detectedBy
-  drawn-caught xs f = fun-ext (λ t. drawn-catches (vector (c .inputs) xs t) f)
-
-  drawn-tally : (xs : List ℕ) (f : ℕ) → tally card c xs f ≡ gateTally gs c xs f
-  unfolding tally
-  drawn-tally xs f = rw (drawn-caught xs f)
-
-  drawn-mark : (xs : List ℕ) (f : ℕ) → mark card c xs f ≡ gateMark gs c xs f
-  unfolding mark
-  drawn-mark xs f = rw (drawn-caught xs f)
-
-  drawn-marked : (xs : List ℕ) → marked card c xs ≡ gateMarked gs c xs
-  unfolding marked
-  drawn-marked xs =
-      count-same (λ f. inGrade card c f && ltb 0 (tally card c xs f)) (λ f. faultCounts gs c f && ltb 0 (gateTally gs c xs f)) (c .faults)
-      (λ f l. rw (drawn-counts a f l, drawn-tally xs f))
-
   drawn-total : total card c ≡ gateTotal gs c
   unfolding total
   drawn-total = count-same (inGrade card c) (faultCounts gs c) (c .faults) (drawn-counts a)
 
-pub drawn-as-gates : (gs : List ℕ) (extra : ℕ) {c : Counts} → listedWith gs extra ≡ Accepted c → AsGates gs c
-drawn-as-gates gs extra e =
-    let a = listed-told gs extra e in
+pub drawn-as-gates : (gs : List ℕ) (extra : ℕ) {c : Counts} → gatesCheckedWith gs extra ≡ Accepted c → AsGates gs c
+unfolding detectedBy tally mark marked
+drawn-as-gates gs extra {c} e =
+    let a = gates-check-accepts gs extra e in
+    let n = vectors (c .inputs) in
     record {
       accepted = drawn-accepted a;
       direct = drawn-direct a;
@@ -76,9 +61,10 @@ drawn-as-gates gs extra e =
       values = λ s p x. drawn-value a s x p;
       shows = drawn-shows a;
       catches = drawn-catches a;
-      tallies = drawn-tally a;
-      marks = drawn-mark a;
+      tallies = λ xs f. tallyOf-same (detectedBy (card a) c xs) (gateDetectedBy gs c xs) (n xs) f f (λ t l. drawn-catches a (vector (c .inputs) xs t) f);
+      marks = λ xs f. markOf-same (detectedBy (card a) c xs) (gateDetectedBy gs c xs) (n xs) f f (λ t l. drawn-catches a (vector (c .inputs) xs t) f);
       counting = drawn-counts a;
-      graded = drawn-marked a;
+      graded = λ xs. markedOf-same (detectedBy (card a) c xs) (gateDetectedBy gs c xs) (n xs) (inGrade (card a) c) (faultCounts gs c) (c .faults)
+          (drawn-counts a) (λ f t h l. drawn-catches a (vector (c .inputs) xs t) f);
       totals = drawn-total a;
     }

@@ -1,4 +1,4 @@
--- AN ACCEPTED GATE LIST, told by its lines: `listed-told`. Assumes nothing.
+-- AN ACCEPTED GATE LIST, told by its lines: `gates-check-accepts`. Assumes nothing.
 use Prim.Native.Nat.{ℕ, zero, suc, _+_, _<_, _≤_}
 use mathlib.Core.Path.{_≡_, refl, sym, ap, _∙_}
 use mathlib.Core.List.{List, [], _∷_}
@@ -21,23 +21,23 @@ use Rattle.answers.specs.Tests.{test, unless, firstBroken}
 use Rattle.answers.proofs.Tests.{then-sound, all-passed, onward-accepts}
 use Rattle.form.specs.Check.{counts, withGraph, inputTests, word, ended, longTests}
 use Rattle.form.proofs.Verdicts.{due-told}
-use Rattle.gatelist.specs.Lines.{firstLead, header, inputLine, observableLine, function, leads, named}
-use Rattle.gatelist.specs.Form.{place, wrongGate, gateTests, headerVerdict, leadVerdict, leadsVerdict, lineVerdict, rest, listedWith}
-use Rattle.gatelist.specs.Listed.{Gate, Listed}
+use Rattle.gatelist.specs.Lines.{firstLead, header, inputLine, observableLine, function, leads, namedLine}
+use Rattle.gatelist.specs.Form.{gateListLength, wrongGate, gateTests, headerVerdict, leadVerdict, leadsVerdict, lineVerdict, rest, gatesCheckedWith}
+use Rattle.gatelist.specs.AcceptsGates.{Gate, AcceptsGates}
 use Rattle.gatelist.proofs.Lines.{lead-next}
 
 -- a sound header w
 module _ (w : ℕ) (c : Counts) (e : headerVerdict w c ≡ Sound) where
-  pub header-sound : (c .graphs < 1024) × (unless (eqb (kind w) 0) (firstBroken (inputTests w (place c) c)) (firstBroken (gateTests w c)) ≡ Sound)
+  pub header-sound : (c .graphs < 1024) × (unless (eqb (kind w) 0) (firstBroken (inputTests w (gateListLength c) c)) (firstBroken (gateTests w c)) ≡ Sound)
   unfolding headerVerdict
   header-sound =
-      let few = test (leb 1024 (c .graphs)) TooManyGraphs (place c) ∷ [] in
+      let few = test (leb 1024 (c .graphs)) TooManyGraphs (gateListLength c) ∷ [] in
       let (a, b) = then-sound (firstBroken few) _ e in
       (leb-false 1024 (c .graphs) (all-passed few a .0), b)
 
   pub an-input : eqb (kind w) 0 ≡ true → (c .graphs ≤ c .inputs) × (w ≡ 0)
   an-input z =
-      let t = all-passed (inputTests w (place c) c) (rw z at (header-sound .1)) in
+      let t = all-passed (inputTests w (gateListLength c) c) (rw z at (header-sound .1)) in
       (ltb-false (c .inputs) (c .graphs) (t .0), omega (arith, eqb-true (kind w) 0 z, eqb-true (inputSpare w) 0 (not-false _ (t .1 .0))))
 
   pub a-gate : eqb (kind w) 0 ≡ false → (kind w < 3) × (c .nodes + leadCount w ≤ 4096) × (wrongGate (gateFunction w) (leadCount w) ≡ false)
@@ -113,7 +113,7 @@ module _ (gs : List ℕ) where
         (b, omega (arith, count-le (inputLine gs) l))
 
     a-gate-line : inputLine gs l ≡ false → Gate gs l
-    unfolding inputLine function leads named
+    unfolding inputLine function leads namedLine
     a-gate-line z =
         let (low, few, right) = a-gate (header gs l) (upTo l) header-of z in
         record {
@@ -159,10 +159,10 @@ module _ (gs : List ℕ) where
   rest-sound : (extra left l : ℕ) (d : Counts) → Within l → rest gs extra left (upTo l) ≡ Accepted d → AllSound l d
   unfolding rest
   rest-sound extra zero l d w e = let z : _≡_ {A = ℕ} 0 1 = cc in absurd (omega arith)
-  rest-sound extra (suc left) l d w e = elim (decLe (length gs) (place (upTo l))) [
-    | yes m ↦ ended-sound extra l d w (rw (le-leb (length gs) (place (upTo l)) m) at e)
+  rest-sound extra (suc left) l d w e = elim (decLe (length gs) (gateListLength (upTo l))) [
+    | yes m ↦ ended-sound extra l d w (rw (le-leb (length gs) (gateListLength (upTo l)) m) at e)
     | no n ↦
-        let (v, e′) = onward-accepts (lineVerdict gs (upTo l)) _ d (rw (lt-leb (length gs) (place (upTo l)) (omega arith)) at e) in
+        let (v, e′) = onward-accepts (lineVerdict gs (upTo l)) _ d (rw (lt-leb (length gs) (gateListLength (upTo l)) (omega arith)) at e) in
         let r = rest-sound extra left (suc l) d (within-next l w (omega arith) v) (rw (upTo-next l) at e′) in
         record {
           same = r .same;
@@ -176,12 +176,12 @@ module _ (gs : List ℕ) where
   unfolding firstLead
   within-none = record { lines = omega arith; few = omega arith; inside = omega arith }
 
-  all-sound : (extra : ℕ) {c : Counts} → listedWith gs extra ≡ Accepted c → AllSound 0 c
-  unfolding listedWith
+  all-sound : (extra : ℕ) {c : Counts} → gatesCheckedWith gs extra ≡ Accepted c → AllSound 0 c
+  unfolding gatesCheckedWith
   all-sound extra {c} e = rest-sound extra 1025 0 c within-none (sym (from-none extra 1025) ∙ onward-accepts (firstBroken (longTests gs)) _ c e .1)
 
-pub listed-told : (gs : List ℕ) (extra : ℕ) {c : Counts} → listedWith gs extra ≡ Accepted c → Listed gs c
-listed-told gs extra e =
+pub gates-check-accepts : (gs : List ℕ) (extra : ℕ) {c : Counts} → gatesCheckedWith gs extra ≡ Accepted c → AcceptsGates gs c
+gates-check-accepts gs extra e =
     let a = all-sound gs extra e in
     let z = a .same in
     record {

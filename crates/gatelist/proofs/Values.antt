@@ -18,10 +18,10 @@ use Rattle.value.specs.Settings.{Setting, Keeps}
 use Rattle.value.specs.Values.{walk, taken, graph, value}
 use Rattle.value.proofs.Values.{value-solves, value-bit}
 use Rattle.value.proofs.Direct.{decision-direct}
-use Rattle.gatelist.specs.Lines.{firstLead, inputLine, function, leads, named}
+use Rattle.gatelist.specs.Lines.{firstLead, inputLine, function, leads, namedLine}
 use Rattle.gatelist.specs.Gates.{andOf, orOf, gate, leadValue, line, lineValue}
 use Rattle.gatelist.specs.Drawn.{gateExit, drawn}
-use Rattle.gatelist.specs.Listed.{Gate, Listed}
+use Rattle.gatelist.specs.AcceptsGates.{Gate, AcceptsGates}
 use Rattle.gatelist.proofs.Walk.{gate-right, walk-decided, gate-decided}
 use Rattle.gatelist.proofs.Written.{size-is, exit-is, graph-of}
 use Rattle.gatelist.proofs.Accepted.{drawn-accepted, drawn-direct}
@@ -34,7 +34,7 @@ gate-same f n d e l same =
     let o : orOf n d ≡ orOf n e = ap (λ (b : Bool). choose b 1 0) (some-same (λ k. eqb (d k) 1) (λ k. eqb (e k) 1) n (λ k h. rw (same k h))) in
     rw (a, o, same 0 l)
 
-module _ {gs : List ℕ} {c : Counts} (a : Listed gs c) where
+module _ {gs : List ℕ} {c : Counts} (a : AcceptsGates gs c) where
   abbrev card : List ℕ
   card = drawn gs (c .graphs)
 
@@ -50,7 +50,7 @@ module _ {gs : List ℕ} {c : Counts} (a : Listed gs c) where
     line-by v w l h same false z =
         let g = a .gate l h z in
         gate-same (function gs l) (leads gs l) (leadValue gs s v l) (leadValue gs s w l) (gate-right (function gs l) (leads gs l) (g .right) .1)
-        (λ k m. ap (s (firstLead gs l + k)) (same (named gs l k) (g .earlier k m)))
+        (λ k m. ap (s (firstLead gs l + k)) (same (namedLine gs l k) (g .earlier k m)))
 
     line-lower : Lower (c .graphs) (line gs (c .nodes) s x)
     unfolding line
@@ -60,12 +60,12 @@ module _ {gs : List ℕ} {c : Counts} (a : Listed gs c) where
     module _ (keeps : Keeps s) (v : ℕ → ℕ) (bits : (l : ℕ) → l < c .graphs → v l < 2) (l : ℕ) (h : l < c .graphs) where
       module _ (g : Gate gs l) where
         lead-bit : (k : ℕ) → k < leads gs l → leadValue gs s v l k < 2
-        lead-bit k m = keeps (firstLead gs l + k) (v (named gs l k)) (bits (named gs l k) (omega (arith, g .earlier k m)))
+        lead-bit k m = keeps (firstLead gs l + k) (v (namedLine gs l k)) (bits (namedLine gs l k) (omega (arith, g .earlier k m)))
 
         takes : (k : ℕ) → k < leads gs l → taken card s v l k ≡ gateExit (function gs l) (leads gs l) k (leadValue gs s v l k)
         takes k m =
             let o = graph-of a l h in
-            let d : decision card v l k ≡ v (named gs l k) =
+            let d : decision card v l k ≡ v (namedLine gs l k) =
             decision-direct shape (drawn-direct a) v l k h (rw (o .many) m) ∙ ap v (o .read k m) in
             rw (o .start, d) (exit-is a l h k m (leadValue gs s v l k) (lead-bit k m))
 

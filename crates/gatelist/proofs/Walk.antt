@@ -1,4 +1,4 @@
--- ONE ARGUMENT for every gate: the walk through the nodes of its leads ends at the first lead that has the deciding value, and else at the last. It goes
+-- ONE ARGUMENT for every gate: the walk through the nodes of its leads ends at the first lead that has the controlling value, and else at the last. It goes
 -- by that value, by whether the constants are complemented, and by the number of leads; the six functions are looked at only to find these. Assumes
 -- nothing.
 use Prim.Native.Nat.{ℕ, zero, suc, _+_, _-_, _<_, _≤_}
@@ -13,7 +13,7 @@ use Rattle.lists.proofs.Tests.{or-false, or-true, choose-bit, some-has, some-no
 use Rattle.value.specs.Values.{follow, walk}
 use Rattle.gatelist.specs.Form.{wrongGate}
 use Rattle.gatelist.specs.Gates.{gate}
-use Rattle.gatelist.specs.Drawn.{ends, complements, constant, gateExit}
+use Rattle.gatelist.specs.Drawn.{controlling, complements, constant, gateExit}
 
 -- no gate but of these forms
 pub gate-right : (f n : ℕ) → wrongGate f n ≡ false → (f < 6) × (0 < n) × (4 ≤ f → n ≡ 1)
@@ -23,8 +23,8 @@ gate-right f n e =
     let (z, o) = or-false (eqb n 0) (leb 4 f && not (eqb n 1)) b in
     (omega (arith, ltb-false 5 f a), omega (arith, eqb-false n 0 z), λ l. eqb-true n 1 (not-false _ (rw (le-leb 4 f l) at o)))
 
-pub ends-bit : (f : ℕ) → ends f < 2
-ends-bit f = choose-bit (eqb f 1 || eqb f 3) 1 0 (omega arith) (omega arith)
+pub controlling-bit : (f : ℕ) → controlling f < 2
+controlling-bit f = choose-bit (eqb f 1 || eqb f 3) 1 0 (omega arith) (omega arith)
 
 pub constant-bit : (f d : ℕ) → d < 2 → constant f d < 2
 constant-bit f d l = choose-bit (complements f) (1 - d) d (omega arith) l
@@ -36,13 +36,13 @@ follow-constant node (suc (suc e)) l = absurd (omega arith)
 
 -- Leads with the values d, and the exits that the walk takes.
 module _ (f n : ℕ) (d t : ℕ → ℕ) (bits : (k : ℕ) → k < n → d k < 2) (takes : (k : ℕ) → k < n → t k ≡ gateExit f n k (d k)) where
-  -- lead k has the deciding value
+  -- lead k has the controlling value
   abbrev decides : ℕ → Bool
-  decides k = eqb (d k) (ends f)
+  decides k = eqb (d k) (controlling f)
 
-  -- what the gate has: its constant of the deciding value where a lead has it, else of the other
+  -- what the gate has: its constant of the controlling value where a lead has it, else of the other
   abbrev decided : ℕ
-  decided = constant f (choose (some-below decides n) (ends f) (1 - ends f))
+  decided = constant f (choose (some-below decides n) (controlling f) (1 - controlling f))
 
   stops : (k : ℕ) → k < n → decides k || leb n (k + 1) ≡ true → (node : ℕ → ℕ) → follow node (t k) ≡ constant f (d k)
   unfolding gateExit
@@ -54,7 +54,7 @@ module _ (f n : ℕ) (d t : ℕ → ℕ) (bits : (k : ℕ) → k < n → d k < 2
   unfolding gateExit
   goes k l e m = takes k l ∙ rw (e, lt-leb n (k + 1) m) (omega arith)
 
-  -- at lead k, where no lead before it has the deciding value; and the walk from there on
+  -- at lead k, where no lead before it has the controlling value; and the walk from there on
   abbrev NoneBefore : ℕ → Type 0
   NoneBefore k = (j : ℕ) → j < k → decides j ≡ false
 
@@ -65,10 +65,10 @@ module _ (f n : ℕ) (d t : ℕ → ℕ) (bits : (k : ℕ) → k < n → d k < 2
   step k l none node on = here (decides k) refl
     where
       here : (b : Bool) → decides k ≡ b → follow node (t k) ≡ decided
-      here true z = stops k l (ap (_|| leb n (k + 1)) z) node ∙ rw (some-has decides n k l z, eqb-true (d k) (ends f) z)
+      here true z = stops k l (ap (_|| leb n (k + 1)) z) node ∙ rw (some-has decides n k l z, eqb-true (d k) (controlling f) z)
       here false z = elim (decLe n (k + 1)) [
         | yes m ↦
-            let other : d k ≡ 1 - ends f = omega (arith, eqb-false (d k) (ends f) z, bits k l, ends-bit f) in
+            let other : d k ≡ 1 - controlling f = omega (arith, eqb-false (d k) (controlling f) z, bits k l, controlling-bit f) in
             stops k l (ap (decides k ||_) (le-leb n (k + 1) m) ∙ or-true (decides k)) node
             ∙ rw (some-none decides n (λ j i. none-here k none z j (omega arith)), other)
         | no m ↦ ap (follow node) (goes k l z (omega arith)) ∙ on (omega arith) z
@@ -90,14 +90,14 @@ single (suc zero) l = refl
 single (suc (suc e)) l = absurd (omega arith)
 
 pub gate-decided : (f n : ℕ) (d : ℕ → ℕ) → wrongGate f n ≡ false → ((k : ℕ) → k < n → d k < 2)
-    → gate f n d ≡ constant f (choose (some-below (λ k. eqb (d k) (ends f)) n) (ends f) (1 - ends f))
+    → gate f n d ≡ constant f (choose (some-below (λ k. eqb (d k) (controlling f)) n) (controlling f) (1 - controlling f))
 unfolding gate some-below
 gate-decided f n d e bits = by f (gate-right f n e .0) (gate-right f n e .2)
   where
     lone : n ≡ 1 → choose (some-below (λ k. eqb (d k) 0) n) 0 1 ≡ d 0
     lone z = rw z (single (d 0) (bits 0 (omega arith)))
 
-    by : (g : ℕ) → g < 6 → (4 ≤ g → n ≡ 1) → gate g n d ≡ constant g (choose (some-below (λ k. eqb (d k) (ends g)) n) (ends g) (1 - ends g))
+    by : (g : ℕ) → g < 6 → (4 ≤ g → n ≡ 1) → gate g n d ≡ constant g (choose (some-below (λ k. eqb (d k) (controlling g)) n) (controlling g) (1 - controlling g))
     by zero l o = refl
     by (suc zero) l o = refl
     by (suc (suc zero)) l o = refl

@@ -13,10 +13,10 @@ use Rattle.word32.specs.Fields.{kind, headerSpare, nodeCount, readGraph, exitsS
 use Rattle.word32.proofs.Made.{header-fields, exits-fields, exits-one}
 use Rattle.answers.specs.declared.Counts.{Counts}
 use Rattle.layout.specs.Layout.{first, header, isInput, observable, size, reads, exits}
-use Rattle.gatelist.specs.Lines.{firstLead, inputLine, observableLine, function, leads, leadWord, named}
+use Rattle.gatelist.specs.Lines.{firstLead, inputLine, observableLine, function, leads, leadWord, namedLine}
 use Rattle.gatelist.specs.Lines as lines
-use Rattle.gatelist.specs.Drawn.{ends, constant, gateExit, leadNodes, lineWords, drawn}
-use Rattle.gatelist.specs.Listed.{Listed}
+use Rattle.gatelist.specs.Drawn.{controlling, constant, gateExit, leadNodes, lineWords, drawn}
+use Rattle.gatelist.specs.AcceptsGates.{AcceptsGates}
 use Rattle.gatelist.specs.Same.{GraphOf}
 use Rattle.gatelist.proofs.Lines.{lead-next, line-long, drawn-long, lead-few}
 use Rattle.gatelist.proofs.Walk.{constant-bit}
@@ -24,13 +24,13 @@ use Rattle.gatelist.proofs.Walk.{constant-bit}
 -- an exit has room in its field
 pub exit-small : (f n k d : ℕ) → k < 4096 → d < 2 → gateExit f n k d < 2 ^ 14
 unfolding gateExit
-exit-small f n k d h l = by (eqb d (ends f) || leb n (k + 1))
+exit-small f n k d h l = by (eqb d (controlling f) || leb n (k + 1))
   where
     by : (b : Bool) → choose b (constant f d) (k + 3) < 2 ^ 14
     by true = omega (arith, constant-bit f d l)
     by false = omega arith
 
-module _ {gs : List ℕ} {c : Counts} (a : Listed gs c) where
+module _ {gs : List ℕ} {c : Counts} (a : AcceptsGates gs c) where
   abbrev card : List ℕ
   card = drawn gs (c .graphs)
 
@@ -116,7 +116,7 @@ module _ {gs : List ℕ} {c : Counts} (a : Listed gs c) where
 
     -- GRAPH l IS LINE l
     pub graph-of : GraphOf gs c l
-    unfolding isInput observable reads inputLine observableLine named
+    unfolding isInput observable reads inputLine observableLine namedLine
     graph-of = record {
       input = ap (λ (v : ℕ). eqb v 0) (fields .0);
       seen = ap (λ (v : ℕ). eqb v 2) (fields .0);

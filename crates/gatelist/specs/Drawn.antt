@@ -9,9 +9,9 @@ use Rattle.lists.specs.Tables.{chain}
 use Rattle.word32.specs.Fields.{kind, gateFunction, leadCount, headerWord, exitsWord}
 use Rattle.gatelist.specs.Lines.{firstLead}
 
--- the value of a lead that decides a gate, whatever its other leads have: 1 for OR (function 1) and NOR (3), 0 for the others
-abbrev pub ends : ℕ → ℕ
-ends f = choose (eqb f 1 || eqb f 3) 1 0
+-- the controlling value: that of a lead that decides a gate, whatever its other leads have: 1 for OR (function 1) and NOR (3), 0 for the others
+abbrev pub controlling : ℕ → ℕ
+controlling f = choose (eqb f 1 || eqb f 3) 1 0
 
 -- the functions that complement: NAND (2), NOR (3) and NOT (4)
 abbrev pub complements : ℕ → Bool
@@ -21,10 +21,10 @@ complements f = leb 2 f && leb f 4
 abbrev pub constant : ℕ → ℕ → ℕ
 constant f d = choose (complements f) (1 - d) d
 
--- the exit at decision d of the node of lead k, of n: the walk ends at the deciding value and at the last lead, and else goes on to local node k + 1,
+-- the exit at decision d of the node of lead k, of n: the walk ends at the controlling value and at the last lead, and else goes on to local node k + 1,
 -- whose exit number is k + 3
 unfoldable pub gateExit : ℕ → ℕ → ℕ → ℕ → ℕ
-gateExit f n k d = choose (eqb d (ends f) || leb n (k + 1)) (constant f d) (k + 3)
+gateExit f n k d = choose (eqb d (controlling f) || leb n (k + 1)) (constant f d) (k + 3)
 
 -- both words of that node: the read is the lead's own word w, whose bit 16 is clear
 abbrev pub nodeWords : ℕ → ℕ → ℕ → ℕ → List ℕ

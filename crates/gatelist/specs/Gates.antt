@@ -1,8 +1,8 @@
 -- The values of a gate list's lines under a vector, with leads and lines stuck, and what a vector catches: by gates alone. For an accepted gate list with
 -- the counts c, which has c .graphs lines and N = c .nodes leads. Assumes nothing.
 --
--- Lead j is place j, and line l is place N + l. So fault 2j holds lead j at 0 and 2j + 1 at 1, and fault 2N + 2l holds line l at 0 and 2N + 2l + 1 at 1;
--- a setting says what a place has where v is worked out there (`value`, Settings: `good`, `stuck`, `faulty`). A stuck lead is what its own gate takes for
+-- Lead j is site j, and line l is site N + l. So fault 2j holds lead j at 0 and 2j + 1 at 1, and fault 2N + 2l holds line l at 0 and 2N + 2l + 1 at 1;
+-- a setting says what a site has where v is worked out there (`value`, Settings: `good`, `stuck`, `faulty`). A stuck lead is what its own gate takes for
 -- the value of the line; the other leads of the line are not altered.
 use Prim.Native.Nat.{ℕ, _+_, _-_, _/_}
 use mathlib.Core.List.{List, [], _∷_}
@@ -15,8 +15,8 @@ use Rattle.word32.specs.Fields.{kind, leadLine}
 use Rattle.answers.specs.declared.Counts.{Counts}
 use Rattle.testvectors.specs.Vectors.{bit, vectors, vector}
 use Rattle.value.specs.Settings.{Setting, good, faulty}
-use Rattle.detect.specs.Grading.{markBy}
-use Rattle.gatelist.specs.Lines.{firstLead, inputLine, observableLine, function, leads, named}
+use Rattle.detect.specs.Relation.{tallyOf, markOf, markedOf}
+use Rattle.gatelist.specs.Lines.{firstLead, inputLine, observableLine, function, leads, namedLine}
 
 -- AND of n leads with the values v: 0 where one of them is 0, else 1. OR: 1 where one of them is 1, else 0
 abbrev pub andOf : ℕ → (ℕ → ℕ) → ℕ
@@ -38,11 +38,11 @@ gate f n v =
 module _ (gs : List ℕ) where
   -- what lead k of line l has, where the lines have the values v
   abbrev pub leadValue : Setting → (ℕ → ℕ) → ℕ → ℕ → ℕ
-  leadValue s v l k = s (firstLead gs l + k) (v (named gs l k))
+  leadValue s v l k = s (firstLead gs l + k) (v (namedLine gs l k))
 
   -- what line l has: an input its vector bit, a gate its function of its leads; N is the number of leads
   unfoldable pub line : ℕ → Setting → List ℕ → Net
-  unfolding gate inputLine function leads named bit
+  unfolding gate inputLine function leads namedLine bit
   line N s x v l = s (N + l) (choose (inputLine gs l) (bit x l) (gate (function gs l) (leads gs l) (leadValue s v l)))
 
   -- some observable line of the first n has another value in w than in v
@@ -66,10 +66,10 @@ module _ (gs : List ℕ) where
     gateDetectedBy xs f t = gateDetects (vector (c .inputs) xs t) f
 
     abbrev pub gateTally : List ℕ → ℕ → ℕ
-    gateTally xs f = count (gateDetectedBy xs f) (vectors (c .inputs) xs)
+    gateTally xs = tallyOf (gateDetectedBy xs) (vectors (c .inputs) xs)
 
     abbrev pub gateMark : List ℕ → ℕ → ℕ
-    gateMark xs f = markBy (gateDetectedBy xs f) (vectors (c .inputs) xs)
+    gateMark xs = markOf (gateDetectedBy xs) (vectors (c .inputs) xs)
 
     -- THE GRADE (document 02, 'A lead counts a single time'). How many leads name line l: the words of kind 3 with its number. A fault counts if it is a
     -- lead's, or that of a line that is observable or that another number of leads than one names.
@@ -83,7 +83,7 @@ module _ (gs : List ℕ) where
 
     -- how many of the faults that count some vector catches, and how many count
     abbrev pub gateMarked : List ℕ → ℕ
-    gateMarked xs = count (λ f. faultCounts f && ltb 0 (gateTally xs f)) (c .faults)
+    gateMarked xs = markedOf (gateDetectedBy xs) faultCounts (vectors (c .inputs) xs) (c .faults)
 
     abbrev pub gateTotal : ℕ
     gateTotal = count faultCounts (c .faults)

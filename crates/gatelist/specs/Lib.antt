@@ -2,5 +2,5 @@ pub mod Lines
 pub mod Form
 pub mod Gates
 pub mod Drawn
-pub mod Listed
+pub mod AcceptsGates
 pub mod Same

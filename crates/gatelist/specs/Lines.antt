@@ -40,6 +40,6 @@ module _ (gs : List ℕ) where
   abbrev pub leadWord : ℕ → ℕ → ℕ
   leadWord l k = getD gs (l + firstLead l + 1 + k) 0
 
-  unfoldable pub named : ℕ → ℕ → ℕ
+  unfoldable pub namedLine : ℕ → ℕ → ℕ
   unfolding firstLead
-  named l k = leadLine (leadWord l k)
+  namedLine l k = leadLine (leadWord l k)

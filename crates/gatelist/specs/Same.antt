@@ -13,7 +13,7 @@ use Rattle.value.specs.Direct.{Direct}
 use Rattle.detect.specs.Detects.{observed, detects}
 use Rattle.cardtables.specs.Stems.{inGrade, total}
 use Rattle.detect.specs.Grading.{tally, mark, marked}
-use Rattle.gatelist.specs.Lines.{firstLead, inputLine, observableLine, leads, named}
+use Rattle.gatelist.specs.Lines.{firstLead, inputLine, observableLine, leads, namedLine}
 use Rattle.gatelist.specs.Gates.{shown, lineValue, gateDetects, gateTally, gateMark, faultCounts, gateMarked, gateTotal}
 use Rattle.gatelist.specs.Drawn.{drawn}
 
@@ -27,7 +27,7 @@ module _ (gs : List ℕ) (c : Counts) where
     pub seen : observable card l ≡ observableLine gs l
     pub start : first card l ≡ firstLead gs l
     pub many : size card l ≡ leads gs l
-    pub read : (k : ℕ) → k < leads gs l → reads card l k ≡ named gs l k
+    pub read : (k : ℕ) → k < leads gs l → reads card l k ≡ namedLine gs l k
 
   pub record AsGates : Type 0 where
     -- it is accepted, with the counts of the gate list; every read is direct

@@ -6,20 +6,15 @@ use native.Mathlib.Omega.{arith}
 use native.Mathlib.Numerals.{add-one}
 use lib.ListN.{length, getD, set, take, drop, take-append-drop, length-append}
 use lib.Seq.{length-take-le}
-use borrow.Author.Tests.{ltb-false}
 use Rattle.lists.specs.Tables.{grow, chain, front}
 use Rattle.lists.proofs.Tables.{front-more}
 use Rattle.lists.proofs.Front.{front-none, front-on}
 use Rattle.word32.specs.Fields.{leadCount}
 use Rattle.answers.specs.declared.Counts.{Counts}
-use Rattle.answers.specs.declared.Verdict.the-variants.{Sound}
-use Rattle.answers.specs.Tests.{firstBroken}
-use Rattle.answers.proofs.Tests.{all-passed}
 use Rattle.gatelist.specs.Lines.{firstLead, leads}
 use Rattle.gatelist.specs.Drawn.{lineWords, drawn}
-use Rattle.gatelist.specs.Listed.{Listed}
+use Rattle.gatelist.specs.AcceptsGates.{AcceptsGates}
 use Rattle.gatelist.proofs.Lines.{lead-next, drawn-long, lead-few, card-long}
-use Rattle.gates.specs.Calls.{roomTests}
 
 -- a store into a buffer d, and two that follow each other
 module _ (d : List ℕ) (n v : ℕ) where
@@ -70,7 +65,7 @@ module _ (gs : List ℕ) (c : Counts) (d : List ℕ) where
   unfolding firstLead drawn chain
   drawing-start = record { long = refl; lines = omega arith; few = omega arith; at-lead = refl; words = refl }
 
-  module _ (a : Listed gs c) {out : List ℕ} {line lead : ℕ} (y : Drawing out line lead) where
+  module _ (a : AcceptsGates gs c) {out : List ℕ} {line lead : ℕ} (y : Drawing out line lead) where
     pub all-drawn : c .graphs ≤ line → (line + 2 * lead ≡ length (drawn gs (c .graphs))) × (out ≡ front (drawn gs (c .graphs)) d)
     all-drawn h =
         let e : line ≡ c .graphs = omega (arith, y .lines) in
@@ -109,11 +104,3 @@ module _ (gs : List ℕ) (c : Counts) (d : List ℕ) where
             chain-put (λ k. lineWords gs (k + firstLead gs k)) d 0 (omega arith) (line + 2 * firstLead gs line) line (omega (arith, drawn-long gs line))
             (y .words) (rw (y .at-lead) at e);
       }
-
--- the room for its words
-pub room-tested : {gs : List ℕ} {c : Counts} → Listed gs c → (room : ℕ)
-    → firstBroken (roomTests (c .graphs + 2 * c .nodes) room) ≡ firstBroken (roomTests (length (drawn gs (c .graphs))) room)
-room-tested a room = ap (λ (n : ℕ). firstBroken (roomTests n room)) (sym (card-long a))
-
-pub room-there : (n room : ℕ) → firstBroken (roomTests n room) ≡ Sound → n ≤ room
-room-there n room e = ltb-false room n (all-passed (roomTests n room) e .0)

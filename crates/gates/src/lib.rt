@@ -1,24 +1,25 @@
 // A gate list turned into a card: its check, and then the card's words, line by line.
 ghost use mathlib.Core.Path.{_≡_};
 ghost use mathlib.Core.List.{_++_};
-ghost use Prim.Native.Nat.{_+_, _*_, _≤_, _<_};
+ghost use Prim.Native.Nat.{_+_, _*_, _≤_, _<_, min};
 ghost use lib.ListN.{length, getD, take};
 ghost use Rattle.lists.specs.Tables.{chain, front};
 ghost use Rattle.word32.specs.Fields.{leadCount};
-ghost use Rattle.answers.specs.Answers.{replyTold};
-ghost use Rattle.answers.specs.Tests.{firstBroken};
-ghost use Rattle.gatelist.specs.Drawn.{ends, constant, gateExit, nodeWords, leadNodes, lineWords, drawn};
-ghost use Rattle.gatelist.specs.Listed.{Listed};
-ghost use Rattle.gates.specs.Calls.{roomTests, toCardTold, toCardBuffer};
+ghost use Rattle.answers.specs.Limits.{maxNodes, maxWords};
+ghost use Rattle.answers.specs.Calls.{lent, whole, ByWords};
+ghost use Rattle.answers.specs.Ends.{EndsAs};
+ghost use Rattle.gatelist.specs.Drawn.{controlling, constant, gateExit, nodeWords, leadNodes, lineWords, drawn};
+ghost use Rattle.gatelist.specs.AcceptsGates.{AcceptsGates};
+ghost use Rattle.gates.specs.Calls.{toCardOutcome};
 use answers::Answer;
 use answers::Counts;
+use answers::Ended;
 use answers::Reply;
 use answers::Rule;
-use answers::Verdict;
 
-// The value of a lead that decides a gate of function f.
-fn ends(f: u32) -> u32
-    ensures { λ r. ⌜ r ≡ ends f ⌝ }
+// The controlling value of a gate of function f.
+fn controlling(f: u32) -> u32
+    ensures { λ r. ⌜ r ≡ controlling f ⌝ }
 {
     if f == 1 {
         return 1;
@@ -45,10 +46,10 @@ fn constant(f: u32, d: u32) -> usize
 
 // The exit at decision d of the node of lead k, of n, in a gate of function f.
 fn gate_exit(f: u32, n: usize, k: usize, d: u32) -> usize
-    requires { ⌜ (d < 2) × (k < 4096) ⌝ }
+    requires { ⌜ (d < 2) × (k < maxNodes) ⌝ }
     ensures { λ r. ⌜ (r ≡ gateExit f n k d) × (r < 16384) ⌝ }
 {
-    if d == ends(f) {
+    if d == controlling(f) {
         return constant(f, d);
     }
     if n <= k + 1 {
@@ -59,7 +60,7 @@ fn gate_exit(f: u32, n: usize, k: usize, d: u32) -> usize
 
 // The node of lead k, whose word is w, of n in a gate of function f: its two words go to a place of the buffer.
 fn put_node(w: u32, f: u32, n: usize, k: usize, out: &mut [u32], at: usize)
-    requires { ⌜ (k < 4096) × (at + 2 ≤ length (now out)) ⌝ }
+    requires { ⌜ (k < maxNodes) × (at + 2 ≤ length (now out)) ⌝ }
     ensures { λ _. ⌜ now (out .exit) ≡ front (take at (now (out .entry)) ++ nodeWords f n w k) (now (out .entry)) ⌝ }
 {
     let e0 = gate_exit(f, n, k, 0);
@@ -70,7 +71,7 @@ fn put_node(w: u32, f: u32, n: usize, k: usize, out: &mut [u32], at: usize)
 
 // The nodes of the leads of a gate, whose header w stands at p, go to a place of the buffer.
 fn put_nodes(gates: &[u32], p: usize, w: u32, out: &mut [u32], at: usize)
-    requires { ⌜ (leadCount w ≤ 4096) × (p + 1 + leadCount w ≤ length (now gates)) × (at + 2 * leadCount w ≤ length (now out)) ⌝ }
+    requires { ⌜ (leadCount w ≤ maxNodes) × (p + 1 + leadCount w ≤ length (now gates)) × (at + 2 * leadCount w ≤ length (now out)) ⌝ }
     ensures { λ _. ⌜ now (out .exit) ≡ front (take at (now (out .entry)) ++ chain (leadNodes (now (gates .entry)) p w) (leadCount w)) (now (out .entry)) ⌝ }
 {
     let f = word32::gate_function(w);
@@ -84,7 +85,7 @@ fn put_nodes(gates: &[u32], p: usize, w: u32, out: &mut [u32], at: usize)
 
 // The words of the line whose header stands at p go to a place of the buffer.
 fn put_line(gates: &[u32], p: usize, out: &mut [u32], at: usize)
-    requires { ⌜ (leadCount (getD (now gates) p 0) ≤ 4096) × (p + 1 + leadCount (getD (now gates) p 0) ≤ length (now gates))
+    requires { ⌜ (leadCount (getD (now gates) p 0) ≤ maxNodes) × (p + 1 + leadCount (getD (now gates) p 0) ≤ length (now gates))
         × (at + 1 + 2 * leadCount (getD (now gates) p 0) ≤ length (now out)) ⌝ }
     ensures { λ _. ⌜ now (out .exit) ≡ front (take at (now (out .entry)) ++ lineWords (now (gates .entry)) p) (now (out .entry)) ⌝ }
 {
@@ -94,8 +95,8 @@ fn put_line(gates: &[u32], p: usize, out: &mut [u32], at: usize)
 }
 
 // The words of the card of an accepted gate list go to the front of a buffer; the result is their number.
-pub fn write_card(gates: &[u32], c: Counts, out: &mut [u32]) -> usize
-    requires { ⌜ Listed (now gates) c × (c .graphs + 2 * c .nodes ≤ length (now out)) ⌝ }
+fn write_card(gates: &[u32], c: Counts, out: &mut [u32]) -> usize
+    requires { ⌜ AcceptsGates (now gates) c × (c .graphs + 2 * c .nodes ≤ length (now out)) ⌝ }
     ensures { λ r. ⌜ (r ≡ length (drawn (now (gates .entry)) (c .graphs))) × (now (out .exit) ≡ front (drawn (now (gates .entry)) (c .graphs)) (now (out .entry))) ⌝ }
 {
     let mut line = 0;
@@ -108,28 +109,39 @@ pub fn write_card(gates: &[u32], c: Counts, out: &mut [u32]) -> usize
     line + 2 * leads
 }
 
-// The test after the check, for a buffer of `room` words.
-pub fn test_room(c: Counts, room: usize) -> Verdict
-    requires { ⌜ (c .graphs ≤ 1024) × (c .nodes ≤ 4096) ⌝ }
-    ensures { λ r. ⌜ r ≡ firstBroken (roomTests (c .graphs + 2 * c .nodes) room) ⌝ }
+// The work of the call, for a gate list whose words so many bytes follow that make no word, and a buffer of `room` words.
+pub fn to_card_with(gates: &[u32], extra: usize, room: usize, card: &mut [u32]) -> Ended
+    requires { ⌜ min room maxWords ≤ length (now card) ⌝ }
+    ensures { λ r. ⌜ EndsAs (toCardOutcome (lent (now (gates .entry)) extra) room) room r (now (card .entry)) (now (card .exit)) ⌝ }
 {
-    if room < c.graphs + 2 * c.nodes {
-        return Verdict::Broken(Rule::BufferTooShort, 0);
+    match gatecheck::check_with(gates, extra) {
+        Answer::Refused(rule, position) => Ended {
+            reply: Reply::Refused(rule, position),
+            words: 0,
+            more: 0,
+        },
+        Answer::Accepted(c) => {
+            if room < c.graphs + 2 * c.nodes {
+                return Ended {
+                    reply: Reply::Refused(Rule::BufferTooShort, 0),
+                    words: 0,
+                    more: 0,
+                };
+            }
+            let n = write_card(gates, c, card);
+            Ended {
+                reply: Reply::Done(n),
+                words: n,
+                more: 0,
+            }
+        }
     }
-    Verdict::Sound
 }
 
 // To card: the words of a gate list give those of its card, in the front of the buffer, and their number.
 pub fn to_card(gates: &[u32], card: &mut [u32]) -> Reply
-    ensures { λ r. ⌜ (replyTold r ≡ toCardTold (now (gates .entry)) (now (card .entry))) × (now (card .exit) ≡ toCardBuffer (now (gates .entry)) (now (card .entry))) ⌝ }
+    ensures { λ r. ⌜ ByWords (toCardOutcome (whole (now (gates .entry)))) r (now (card .entry)) (now (card .exit)) ⌝ }
 {
-    match gatecheck::check_with(gates, 0) {
-        Answer::Refused(rule, position) => Reply::Refused(rule, position),
-        Answer::Accepted(c) => {
-            if let Verdict::Broken(rule, position) = test_room(c, card.len()) {
-                return Reply::Refused(rule, position);
-            }
-            Reply::Done(write_card(gates, c, card))
-        }
-    }
+    let end = to_card_with(gates, 0, card.len(), card);
+    end.reply
 }

@@ -2,4 +2,3 @@
 pub mod Graded
 pub mod Tests
 pub mod Columns
-pub mod Old

@@ -1,7 +1,2 @@
--- The form of vectors in bytes, where refusals stand, the opening of a call, and words written as bytes.
-mod Form
-mod Positions
-pub mod Lists
+-- What is read of bytes, a host's call by the end of its worker, and words written as bytes.
 pub mod Laws
-pub mod Written
-pub mod Lent

@@ -1,3 +1,2 @@
 pub mod Calls
-pub mod Opened
-pub mod Lent
+pub mod Read

@@ -1,126 +1,105 @@
-// Cards and vectors in bytes, each word four of them, highest byte first: a card's check, the form of vectors, how a call in bytes opens, and its one number.
+// What is lent in bytes, each word four of them, highest byte first: it is read into words. And how a host's call ends: its one number, and its words as
+// bytes.
 ghost use mathlib.Core.Path.{_≡_};
-ghost use Prim.Native.Nat.{_+_, _*_, _/_, _≤_, _<_};
-ghost use lib.ListN.{length};
-ghost use Rattle.word32.specs.Bytes.{wordsOf};
-ghost use Rattle.answers.specs.declared.Verdict.the-variants.{Sound};
+ghost use Prim.Native.Nat.{_+_, _*_, _≤_, _<_, min};
+ghost use lib.ListN.{length, take};
+ghost use Rattle.answers.specs.Limits.{maxGraphs, maxWords, maxWidth};
 ghost use Rattle.answers.specs.declared.Reply.the-variants as reply;
-ghost use Rattle.testvectors.specs.Vectors.{wordsVerdict, vectorVerdict, listVerdict};
-ghost use Rattle.inbytes.specs.Calls.{hostCheck, hostForm, hostAnswer};
-ghost use Rattle.inbytes.specs.Opened.{WordsIn, OpenedVector, OpenedList};
-use answers::Answer;
+ghost use Rattle.answers.specs.Ends.{Stands};
+ghost use Rattle.inbytes.specs.Calls.{hostAnswer, asBytes};
+ghost use Rattle.inbytes.specs.Read.{WordsRead};
+use answers::Ended;
+use answers::MAX_GRAPHS;
+use answers::MAX_WIDTH;
+use answers::MAX_WORDS;
+use answers::Reply;
 use answers::Rule;
-use answers::Verdict;
 
-// Room for the words of any vector.
-pub fn vector_room() -> [u32; 64]
-    ensures { λ r. ⌜ 64 ≡ length r ⌝ }
+// Room for the words of any card, of any vector and of any wires, and for one word more, by which longer ones are refused.
+pub fn card_room() -> [u32; MAX_WORDS + 1]
+    ensures { λ r. ⌜ maxWords + 1 ≡ length r ⌝ }
 {
-    [0u32; 64]
+    [0u32; MAX_WORDS + 1]
+}
+
+pub fn vector_room() -> [u32; MAX_WIDTH + 1]
+    ensures { λ r. ⌜ maxWidth + 1 ≡ length r ⌝ }
+{
+    [0u32; MAX_WIDTH + 1]
+}
+
+pub fn wires_room() -> [u32; MAX_GRAPHS + 1]
+    ensures { λ r. ⌜ maxGraphs + 1 ≡ length r ⌝ }
+{
+    [0u32; MAX_GRAPHS + 1]
+}
+
+fn least(a: usize, b: usize) -> usize
+    ensures { λ r. ⌜ r ≡ min a b ⌝ }
+{
+    if a < b {
+        return a;
+    }
+    b
+}
+
+// The words of some bytes, as many as there are or as fit, go to the front of a buffer; the result is their number.
+pub fn read_words(b: &[u8], out: &mut [u32]) -> usize
+    ensures { λ r. ⌜ WordsRead (now (b .entry)) (length (now (out .entry))) r (now (out .exit)) ⌝ }
+{
+    let n = least(b.len() / 4, out.len());
+    let mut i = 0;
+    while i < n {
+        out[i] = word32::word_at(b, i);
+        i += 1;
+    }
+    n
 }
 
 // The one number for a refusal.
-pub fn refusal(rule: Rule, position: usize) -> u64
+fn refusal(rule: Rule, position: usize) -> u64
     requires { ⌜ position < 4294967296 ⌝ }
     ensures { λ r. ⌜ r ≡ hostAnswer (reply.Refused rule position) ⌝ }
 {
     answers::rule_number(rule) as u64 * 4294967296 + position as u64
 }
 
-// The check of a card, whose words go to the front of a buffer.
-pub fn check_card(card: &[u8], ws: &mut [u32]) -> Answer
-    requires { ⌜ 9216 ≤ length (now ws) ⌝ }
-    ensures { λ r. ⌜ (r ≡ hostCheck (now (card .entry))) × (length (now (card .entry)) / 4 ≤ 9216 → WordsIn (now (card .entry)) (now (ws .exit))) ⌝ }
+// The one number of a reply.
+fn answer_number(reply: Reply) -> u64
+    requires { ⌜ Stands reply ⌝ }
+    ensures { λ r. ⌜ r ≡ hostAnswer reply ⌝ }
 {
-    if 9216 < card.len() / 4 {
-        return Answer::Refused(Rule::CardTooLong, 0);
-    }
-    let n = word32::words_of(card, ws);
-    cardcheck::check_with(&ws[..n], card.len() % 4)
-}
-
-// The form of one vector for m inputs, whose words go to the front of a buffer. No vector has more than 64.
-fn vector_form(m: usize, vector: &[u8], x: &mut [u32]) -> Verdict
-    requires { ⌜ (0 < m) × (m ≤ 1024) × (64 ≤ length (now x)) ⌝ }
-    ensures { λ r. ⌜ (r ≡ hostForm vectorVerdict m (now (vector .entry))) × (r ≡ Sound → WordsIn (now (vector .entry)) (now (x .exit))) ⌝ }
-{
-    if 0 < vector.len() % 4 {
-        return Verdict::Broken(Rule::VectorForm, 0);
-    }
-    if 64 < vector.len() / 4 {
-        return Verdict::Broken(Rule::VectorForm, 0);
-    }
-    let n = word32::words_of(vector, x);
-    testvectors::check_vector(m, &x[..n])
-}
-
-// All words of a list of vectors for m inputs.
-fn check_words(m: usize, list: &[u8]) -> Verdict
-    requires { ⌜ (0 < m) × (m ≤ 1024) ⌝ }
-    ensures { λ r. ⌜ r ≡ wordsVerdict m (wordsOf (now (list .entry))) (length (now (list .entry)) / 4) 0 ⌝ }
-{
-    let w = testvectors::width(m);
-    let n = list.len() / 4;
-    let mut p = 0;
-    while p < n {
-        if let Verdict::Broken(rule, position) = testvectors::check_word(
-            m,
-            p % w,
-            p,
-            word32::word_at(list, p),
-        ) {
-            return Verdict::Broken(rule, position);
-        }
-        p += 1;
-    }
-    Verdict::Sound
-}
-
-// The form of a list of vectors for m inputs, read from the bytes word by word.
-fn list_form(m: usize, list: &[u8]) -> Verdict
-    requires { ⌜ (0 < m) × (m ≤ 1024) ⌝ }
-    ensures { λ r. ⌜ r ≡ hostForm listVerdict m (now (list .entry)) ⌝ }
-{
-    if 0 < list.len() % 4 {
-        return Verdict::Broken(Rule::VectorForm, 0);
-    }
-    if let Verdict::Broken(rule, position) = testvectors::test_list(m, list.len() / 4) {
-        return Verdict::Broken(rule, position);
-    }
-    check_words(m, list)
-}
-
-// How a call with one vector opens: the card is accepted and the vector of the form, and their words stand in the front of the buffers; or the call is
-// refused.
-pub fn open_vector(card: &[u8], vector: &[u8], ws: &mut [u32], x: &mut [u32]) -> Answer
-    requires { ⌜ (9216 ≤ length (now ws)) × (64 ≤ length (now x)) ⌝ }
-    ensures { λ r. ⌜ OpenedVector (now (card .entry)) (now (vector .entry)) (now (ws .exit)) (now (x .exit)) r ⌝ }
-{
-    match check_card(card, ws) {
-        Answer::Refused(rule, position) => Answer::Refused(rule, position),
-        Answer::Accepted(c) => {
-            let inputs = c.inputs;
-            if let Verdict::Broken(rule, position) = vector_form(inputs, vector, x) {
-                return Answer::Refused(rule, position);
-            }
-            Answer::Accepted(c)
-        }
+    match reply {
+        Reply::Done(number) => number as u64,
+        Reply::Refused(rule, position) => refusal(rule, position),
     }
 }
 
-// How a grading opens: the card is accepted and the list of the form, and the card's words stand in the front of the buffer; or the call is refused.
-pub fn open_list(card: &[u8], list: &[u8], ws: &mut [u32]) -> Answer
-    requires { ⌜ 9216 ≤ length (now ws) ⌝ }
-    ensures { λ r. ⌜ OpenedList (now (card .entry)) (now (list .entry)) (now (ws .exit)) r ⌝ }
+// The answer of a call that has ended, and the words that it wrote as bytes in the lent buffer.
+pub fn answer(end: Ended, out: &[u32], buffer: &mut [u8]) -> u64
+    requires { ⌜ Stands (end .reply) × (end .words ≤ length (now out)) × (end .words * 4 ≤ length (now buffer)) ⌝ }
+    ensures { λ r. ⌜ (r ≡ hostAnswer (end .reply)) × (now (buffer .exit) ≡ asBytes (take (end .words) (now (out .entry))) (now (buffer .entry))) ⌝ }
 {
-    match check_card(card, ws) {
-        Answer::Refused(rule, position) => Answer::Refused(rule, position),
-        Answer::Accepted(c) => {
-            let inputs = c.inputs;
-            if let Verdict::Broken(rule, position) = list_form(inputs, list) {
-                return Answer::Refused(rule, position);
-            }
-            Answer::Accepted(c)
-        }
-    }
+    let n = end.words;
+    word32::bytes_of(&out[..n], buffer);
+    let reply = end.reply;
+    answer_number(reply)
+}
+
+// The same with two buffers.
+pub fn answer_both(
+    end: Ended,
+    out: &[u32],
+    more: &[u32],
+    buffer: &mut [u8],
+    second: &mut [u8],
+) -> u64
+    requires { ⌜ Stands (end .reply) × (end .words ≤ length (now out)) × (end .words * 4 ≤ length (now buffer))
+        × (end .more ≤ length (now more)) × (end .more * 4 ≤ length (now second)) ⌝ }
+    ensures { λ r. ⌜ (r ≡ hostAnswer (end .reply)) × (now (buffer .exit) ≡ asBytes (take (end .words) (now (out .entry))) (now (buffer .entry)))
+        × (now (second .exit) ≡ asBytes (take (end .more) (now (more .entry))) (now (second .entry))) ⌝ }
+{
+    let m = end.more;
+    word32::bytes_of(&more[..m], second);
+    answer(end, out, buffer)
 }

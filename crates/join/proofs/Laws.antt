@@ -16,11 +16,14 @@ use Rattle.word32.specs.Fields.{kind, readGraph, withRead}
 use Rattle.answers.specs.declared.Counts.{Counts}
 use Rattle.answers.specs.declared.Rule.the-variants.{WireForm}
 use Rattle.answers.specs.declared.Verdict.{Verdict}
-use Rattle.answers.specs.declared.Verdict.the-variants.{Broken}
+use Rattle.answers.specs.declared.Verdict.the-variants.{Sound, Broken}
 use Rattle.answers.specs.Tests.{firstBroken}
-use Rattle.form.specs.Check.{counts, place}
+use Rattle.answers.specs.Calls.{Lent}
+use Rattle.answers.proofs.Tests.{all-passed, passed-sound}
+use Rattle.form.specs.Check.{counts, cardLength}
 use Rattle.wiring.specs.Joined.{isFree, freeBelow, wrongWire, sizeTests, renumbered, moved, free, joinedCounts, joinTests}
-use Rattle.join.specs.Numbers.{Numbered, Named}
+use Rattle.join.specs.Numbers.{Numbered, LowWires}
+use Rattle.join.specs.Calls.{wireTests}
 
 -- the new number of a graph stands among those of the inputs, or is counted from the first output's
 module _ (inputs : List ℕ) (start g : ℕ) where
@@ -58,7 +61,7 @@ pub moved-fits : (w n : ℕ) → kind w ≡ 3 → n ≤ 4096 + readGraph w → w
 moved-fits w n e h = omega arith
 
 -- the numbers of B's inputs fit a word
-pub wired-low : (wires inputs : List ℕ) (start i due : ℕ) → Named wires → Numbered 2048 inputs start → i < length wires → due ≤ 2048
+pub wired-low : (wires inputs : List ℕ) (start i due : ℕ) → LowWires wires → Numbered 2048 inputs start → i < length wires → due ≤ 2048
     → choose (isFree wires i) due (renumbered (length inputs) (at inputs) start (getD wires i 0)) ≤ 4096
 wired-low wires inputs start i due y z h l = go (isFree wires i) refl
   where
@@ -97,7 +100,25 @@ pub size-tested : (A B : Counts) (wires : List ℕ) (room f i : ℕ) {r : Verdic
     → i ≡ least (wrongWire (A .graphs) wires) (length wires) → length wires ≤ i → f ≡ freeBelow wires (length wires)
     → ((m o : ℕ) → r ≡ firstBroken (sizeTests (counts m (A .graphs + f + (B .graphs - B .inputs)) (A .nodes + B .nodes) o)
     (A .graphs + f + (B .graphs - B .inputs) + 2 * (A .nodes + B .nodes)) room))
-    → r ≡ firstBroken (joinTests A B wires (place (joinedCounts A B wires)) room)
+    → r ≡ firstBroken (joinTests A B wires (cardLength (joinedCounts A B wires)) room)
 size-tested A B wires room f i e q l z h =
     (rw (z, e) at (h (A .inputs + free A B wires) (A .observable + B .observable)))
-    ∙ wires-right A B wires (place (joinedCounts A B wires)) room e i q l
+    ∙ wires-right A B wires (cardLength (joinedCounts A B wires)) room e i q l
+
+-- bytes left over after the wires, or none
+module _ (A B : Counts) (wires : Lent) (n room : ℕ) where
+  pub wires-odd : 0 < wires .extra → Broken WireForm 0 ≡ firstBroken (wireTests A B wires n room)
+  wires-odd h = rw (lt-ltb _ _ h)
+
+  pub wires-whole : wires .extra ≤ 0 → firstBroken (joinTests A B (wires .words) n room) ≡ firstBroken (wireTests A B wires n room)
+  wires-whole h = rw (le-ltb _ _ h)
+
+  -- another number of wire words is told as a leftover is
+  pub wires-other : (length (wires .words) ≡ B .inputs → ⊥) → Broken WireForm 0 ≡ firstBroken (wireTests A B wires n room)
+  wires-other h = elim (decLt 0 (wires .extra)) [
+    | yes l ↦ wires-odd l
+    | no m ↦ wires-number A B (wires .words) n room h ∙ wires-whole (omega arith)
+  ]
+
+  pub wires-sound : firstBroken (wireTests A B wires n room) ≡ Sound → firstBroken (joinTests A B (wires .words) n room) ≡ Sound
+  wires-sound e = passed-sound (joinTests A B (wires .words) n room) (all-passed (wireTests A B wires n room) e .1)

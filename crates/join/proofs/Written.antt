@@ -1,5 +1,5 @@
 -- The joined card as its words are written: the inputs, then A's outputs, then B's. Assumes nothing.
-use Prim.Native.Nat.{ℕ, _+_, _-_, _<_, _≤_}
+use Prim.Native.Nat.{ℕ, _+_, _-_, _<_, _≤_, min}
 use mathlib.Core.Path.{_≡_, sym, ap, ap₂, _∙_}
 use mathlib.Core.List.{List, _++_, map, append-assoc}
 use native.Mathlib.Omega.{arith}
@@ -9,12 +9,19 @@ use Rattle.lists.specs.Tables.{at, tab, over, always, front}
 use Rattle.lists.proofs.Tables.{length-tab, tab-at, length-over, over-front}
 use Rattle.lists.proofs.Front.{front-on, length-front}
 use Rattle.answers.specs.declared.Counts.{Counts}
+use Rattle.answers.specs.declared.Verdict.{Verdict}
+use Rattle.answers.specs.declared.Verdict.the-variants.{Sound}
+use Rattle.answers.specs.Tests.{firstBroken}
+use Rattle.answers.specs.Calls.{Lent}
 use Rattle.layout.specs.Shape.{Accepts}
-use Rattle.form.specs.Check.{place}
+use Rattle.form.specs.Check.{cardLength}
 use Rattle.wiring.specs.Joined.{isFree, freeBelow, renumbered, moved, free, numberA, inputB, numberB, joinedCounts, joined}
 use Rattle.wiring.proofs.Stands.{Wired}
-use Rattle.join.specs.Numbers.{Small, Numbered, Named, wiredInput, outputWords, partsWords}
-use Rattle.join.proofs.Laws.{renumbered-same, moved-map, wired-low, free-few}
+use Rattle.wiring.proofs.Words.{joined-long}
+use Rattle.wiring.proofs.Accepted.{tests-wired}
+use Rattle.join.specs.Calls.{wireTests}
+use Rattle.join.specs.Numbers.{WithinLimits, Numbered, LowWires, wiredInput, outputWords, partsWords}
+use Rattle.join.proofs.Laws.{renumbered-same, moved-map, wired-low, free-few, wires-sound}
 
 -- the words after the inputs of a card
 pub length-outputs : (card inputs : List ℕ) (start : ℕ) → length (outputWords card inputs start) ≡ length card - length inputs
@@ -76,7 +83,7 @@ kept-numbered m start l e h k = record {
   low = λ i b. let b′ : i < m = omega (arith, ap length e, length-tab (λ i. i) m) in rw (e, tab-at (λ i. i) m i b′) (omega arith);
 }
 
-pub wired-numbered : (wires inputs l : List ℕ) (start then : ℕ) → Named wires → Numbered 2048 inputs start → length inputs ≤ 1024 → then ≤ 4096
+pub wired-numbered : (wires inputs l : List ℕ) (start then : ℕ) → LowWires wires → Numbered 2048 inputs start → length inputs ≤ 1024 → then ≤ 4096
     → l ≡ tab (wiredInput wires inputs start) (length wires) → Numbered 4096 l then
 wired-numbered wires inputs l start then y z h k e = record {
   few = k;
@@ -90,8 +97,8 @@ pub numbered-up : {inputs : List ℕ} {start : ℕ} → Numbered 2048 inputs sta
 numbered-up z = record { few = omega (arith, z .few); low = λ i b. omega (arith, z .low i b) }
 
 -- two accepted cards, and wires that pass
-pub both-small : {a b : List ℕ} {A B : Counts} → Accepts a A → Accepts b B → Small A B
-both-small x y = record {
+pub both-within-limits : {a b : List ℕ} {A B : Counts} → Accepts a A → Accepts b B → WithinLimits A B
+both-within-limits x y = record {
   graphs-a = x .shape .few-graphs;
   nodes-a = x .shape .few-nodes;
   inputs-b = y .shape .inputs-in;
@@ -99,14 +106,35 @@ both-small x y = record {
   nodes-b = y .shape .few-nodes;
 }
 
-pub wires-named : {A B : Counts} {wires : List ℕ} → Small A B → Wired A B wires → Named wires
-wires-named s w = record {
+wires-low : {A B : Counts} {wires : List ℕ} → WithinLimits A B → Wired A B wires → LowWires wires
+wires-low s w = record {
   few = omega (arith, w .long, s .inputs-b, s .graphs-b);
   low = λ i h e. omega (arith, w .named i (omega (arith, w .long)) e, s .graphs-a);
 }
 
+-- the tests of two accepted cards, which answer v, go by the number of words that the counts tell
+module _ {a b : List ℕ} {A B : Counts} (wires : Lent) (room : ℕ) {v : Verdict} (x : Accepts a A) (y : Accepts b B)
+    (e : v ≡ firstBroken (wireTests A B wires (cardLength (joinedCounts A B (wires .words))) room)) where
+  pub tests-told : {u : Verdict} → v ≡ u → firstBroken (wireTests A B wires (length (joined A B (wires .words) a b)) room) ≡ u
+  tests-told q = rw (joined-long x y (wires .words), ← e) q
+
+  -- where they pass, the words fit the room, and so a buffer that has this room or that of any card
+  module _ (q : v ≡ Sound) where
+    passed : Wired A B (wires .words) × (cardLength (joinedCounts A B (wires .words)) ≤ room)
+    passed = tests-wired A B (wires .words) _ room (wires-sound A B wires _ room (sym e ∙ q))
+
+    pub words-fit : length (joined A B (wires .words) a b) ≤ room
+    words-fit = rw (joined-long x y (wires .words)) (passed .1)
+
+    pub words-ask : {n : ℕ} → min room 9216 ≤ n → LowWires (wires .words) × (length (wires .words) ≡ B .inputs) × (cardLength (joinedCounts A B (wires .words)) ≤ n)
+    words-ask h = (
+      wires-low (both-within-limits x y) (passed .0),
+      passed .0 .long,
+      omega (arith, passed .0 .few-graphs, passed .0 .few-nodes, passed .1),
+    )
+
 -- THE WORDS OF TWO ACCEPTED CARDS, of which n of B's inputs are free, with the tables of their inputs' numbers
-module _ {a b wires : List ℕ} {A B : Counts} {n : ℕ} (x : Accepts a A) (y : Accepts b B) (named : Named wires) (l : length wires ≡ B .inputs)
+module _ {a b wires : List ℕ} {A B : Counts} {n : ℕ} (x : Accepts a A) (y : Accepts b B) (named : LowWires wires) (l : length wires ≡ B .inputs)
     (z : n ≡ freeBelow wires (length wires)) where
   pub few-free : (A .inputs + n ≤ 2048) × (A .graphs + n ≤ 2048)
   few-free = omega (arith, free-few wires (length wires), named .few, x .shape .inputs-in, x .shape .few-graphs)
@@ -125,7 +153,7 @@ module _ {a b wires : List ℕ} {A B : Counts} {n : ℕ} (x : Accepts a A) (y : 
       long-wired : length wired ≡ B .inputs
       long-wired = ap length q ∙ length-tab (wiredInput wires kept (A .inputs + n)) (B .inputs)
 
-      pub parts-ask : {room : ℕ} → place (joinedCounts A B wires) ≤ room
+      pub parts-ask : {room : ℕ} → cardLength (joinedCounts A B wires) ≤ room
           → Numbered 4096 kept (A .inputs + n) × Numbered 4096 wired (A .graphs + n) × (length kept ≤ length a) × (length wired ≤ length b)
           × (A .inputs + n + (length a - length kept) + (length b - length wired) ≤ room)
       parts-ask h = (

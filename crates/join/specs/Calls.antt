@@ -1,31 +1,29 @@
 -- The call that wires two cards together: document 02, change 1. Assumes nothing.
 use Prim.Native.Nat.{ℕ}
-use mathlib.Core.List.{List}
+use mathlib.Core.List.{List, _∷_}
 use lib.ListN.{length}
-use Rattle.lists.specs.Tables.{front}
+use lib.Dec.{ltb}
+use Rattle.answers.specs.declared.Rule.the-variants.{WireForm}
 use Rattle.answers.specs.declared.Counts.{Counts}
-use Rattle.answers.specs.declared.Verdict.{Verdict}
-use Rattle.answers.specs.declared.Reply.{Reply}
-use Rattle.answers.specs.Answers.{Told, replyTold}
-use Rattle.answers.specs.Tests.{firstBroken}
-use Rattle.form.specs.Check.{checked}
+use Rattle.answers.specs.Tests.{Test, test}
+use Rattle.answers.specs.Calls.{Lent, Outcome, Work, work, following, outcome}
+use Rattle.form.specs.Check.{lentCheck}
 use Rattle.wiring.specs.Joined.{joined, joinTests}
-use Rattle.wiring.specs.Calls.{countedOn, repliedBoth, writtenBoth}
+use Rattle.wiring.specs.Calls.{countedOn}
 
-module _ (a b wires : List ℕ) where
-  -- the tests after both checks, for a buffer of `room` words
-  abbrev pub ownTests : ℕ → Counts → Counts → Verdict
-  ownTests room A B = firstBroken (joinTests A B wires (length (joined A B wires a b)) room)
+-- bytes left over after the wires are a wrong number of wire words, rule 13 at 0; then the tests on their words, for a joined card of n words
+abbrev pub wireTests : Counts → Counts → Lent → ℕ → ℕ → List Test
+wireTests A B wires n room = test (ltb 0 (wires .extra)) WireForm 0 ∷ joinTests A B (wires .words) n room
 
-  -- JOIN: A is checked, then B, whose positions follow A's words. The reply has the number of the joined card's words
-  abbrev pub joinReply : List ℕ → Reply
-  joinReply d =
-      repliedBoth (checked a) (countedOn (length a) (checked b)) (ownTests (length d)) (λ A B. length (joined A B wires a b))
+module _ (a b wires : Lent) where
+  -- the words of the joined card
+  abbrev pub joinedWords : Counts → Counts → List ℕ
+  joinedWords A B = joined A B (wires .words) (a .words) (b .words)
 
-  abbrev pub joinTold : List ℕ → Told
-  joinTold d = replyTold (joinReply d)
+  -- with both cards accepted: the tests, for a buffer of `room` words, and the joined card
+  abbrev pub joinWork : ℕ → Counts → Counts → Work
+  joinWork room A B = work (wireTests A B wires (length (joinedWords A B)) room) (length (joinedWords A B)) (joinedWords A B)
 
-  -- and these stand in the front of the buffer
-  abbrev pub joinBuffer : List ℕ → List ℕ
-  joinBuffer d =
-      writtenBoth (checked a) (countedOn (length a) (checked b)) (ownTests (length d)) (λ A B. front (joined A B wires a b) d) d
+  -- JOIN: A is checked, then B, whose positions follow A's words. The number is that of the joined card's words
+  abbrev pub joinOutcome : ℕ → Outcome
+  joinOutcome room = following (lentCheck a) (λ A. outcome (countedOn (length (a .words)) (lentCheck b)) (joinWork room A))

@@ -6,16 +6,17 @@ use mathlib.Core.Bool.{false}
 use lib.ListN.{length, getD, drop}
 use Rattle.lists.specs.Counting.{choose}
 use Rattle.lists.specs.Tables.{at, tab, always}
+use Rattle.answers.specs.Limits.{maxGraphs, maxNodes}
 use Rattle.answers.specs.declared.Counts.{Counts}
 use Rattle.wiring.specs.Joined.{isFree, freeBelow, renumbered, moved}
 
 -- the counts of two accepted cards are small
-pub record Small (A B : Counts) : Type 0 where
-  pub graphs-a : A .graphs ≤ 1024
-  pub nodes-a : A .nodes ≤ 4096
+pub record WithinLimits (A B : Counts) : Type 0 where
+  pub graphs-a : A .graphs ≤ maxGraphs
+  pub nodes-a : A .nodes ≤ maxNodes
   pub inputs-b : B .inputs ≤ B .graphs
-  pub graphs-b : B .graphs ≤ 1024
-  pub nodes-b : B .nodes ≤ 4096
+  pub graphs-b : B .graphs ≤ maxGraphs
+  pub nodes-b : B .nodes ≤ maxNodes
 
 -- the new numbers of a card's inputs, and that of its first output, are at most `most`
 pub record Numbered (most : ℕ) (inputs : List ℕ) (start : ℕ) : Type 0 where
@@ -23,9 +24,9 @@ pub record Numbered (most : ℕ) (inputs : List ℕ) (start : ℕ) : Type 0 wher
   pub low : (i : ℕ) → i < length inputs → getD inputs i 0 ≤ most
 
 -- at most 1,024 wire words, each free or at most 1,024
-pub record Named (wires : List ℕ) : Type 0 where
-  pub few : length wires ≤ 1024
-  pub low : (i : ℕ) → i < length wires → isFree wires i ≡ false → getD wires i 0 ≤ 1024
+pub record LowWires (wires : List ℕ) : Type 0 where
+  pub few : length wires ≤ maxGraphs
+  pub low : (i : ℕ) → i < length wires → isFree wires i ≡ false → getD wires i 0 ≤ maxGraphs
 
 -- the new number of input i of B, where A's inputs have those of a list and A's outputs follow from `start` on
 abbrev pub wiredInput : List ℕ → List ℕ → ℕ → ℕ → ℕ

@@ -2,20 +2,25 @@
 // read under its new number.
 ghost use mathlib.Core.Path.{_≡_};
 ghost use mathlib.Core.List.{_++_};
-ghost use Prim.Native.Nat.{ℕ, _+_, _-_, _*_, _≤_, _<_};
+ghost use Prim.Native.Nat.{ℕ, _+_, _-_, _*_, _≤_, _<_, min};
 ghost use lib.ListN.{length, getD, take};
 ghost use Rattle.lists.specs.Counting.{choose, least};
 ghost use Rattle.lists.specs.Tables.{at, tab, over, front};
-ghost use Rattle.answers.specs.Answers.{replyTold};
+ghost use Rattle.answers.specs.Limits.{maxGraphs, maxWords};
+ghost use Rattle.answers.specs.declared.Answer.the-variants.{Accepted};
 ghost use Rattle.answers.specs.Tests.{firstBroken};
+ghost use Rattle.answers.specs.Calls.{lent, whole, outcome, ByWords};
+ghost use Rattle.answers.specs.Ends.{EndsAs};
 ghost use Rattle.layout.specs.Shape.{Accepts};
-ghost use Rattle.form.specs.Check.{counts, place};
+ghost use Rattle.form.specs.Check.{counts, cardLength};
 ghost use Rattle.wiring.specs.Joined.{isFree, freeBelow, wrongWire, sizeTests, renumbered, moved, joinedCounts, joined, joinTests};
-ghost use Rattle.join.specs.Numbers.{Small, Numbered, Named, wiredInput, outputWords, partsWords};
-ghost use Rattle.join.specs.Calls.{joinTold, joinBuffer};
-ghost use Rattle.join.specs.Accepted.{acceptedReply, acceptedBuffer};
+ghost use Rattle.join.specs.Numbers.{WithinLimits, Numbered, LowWires, wiredInput, outputWords, partsWords};
+ghost use Rattle.join.specs.Calls.{wireTests, joinWork, joinOutcome};
 use answers::Answer;
 use answers::Counts;
+use answers::Ended;
+use answers::MAX_GRAPHS;
+use answers::MAX_NODES;
 use answers::Reply;
 use answers::Rule;
 use answers::Verdict;
@@ -75,10 +80,10 @@ fn test_size(graphs: usize, nodes: usize, room: usize) -> Verdict
     requires { ⌜ (graphs ≤ 8192) × (nodes ≤ 8192) ⌝ }
     ensures { λ r. ⌜ ((i o : ℕ) → r ≡ firstBroken (sizeTests (counts i graphs nodes o) (graphs + 2 * nodes) room)) ⌝ }
 {
-    if 1024 < graphs {
+    if MAX_GRAPHS < graphs {
         return Verdict::Broken(Rule::JoinedTooLarge, 0);
     }
-    if 4096 < nodes {
+    if MAX_NODES < nodes {
         return Verdict::Broken(Rule::JoinedTooLarge, 0);
     }
     if room < graphs + 2 * nodes {
@@ -88,9 +93,9 @@ fn test_size(graphs: usize, nodes: usize, room: usize) -> Verdict
 }
 
 // The tests after both checks, for a buffer of `room` words: the number of wire words, each of them, the limits of a card, the room.
-pub fn test_join(a: Counts, b: Counts, wires: &[u32], room: usize) -> Verdict
-    requires { ⌜ Small a b ⌝ }
-    ensures { λ r. ⌜ r ≡ firstBroken (joinTests a b (now (wires .entry)) (place (joinedCounts a b (now (wires .entry)))) room) ⌝ }
+fn test_join(a: Counts, b: Counts, wires: &[u32], room: usize) -> Verdict
+    requires { ⌜ WithinLimits a b ⌝ }
+    ensures { λ r. ⌜ r ≡ firstBroken (joinTests a b (now (wires .entry)) (cardLength (joinedCounts a b (now (wires .entry)))) room) ⌝ }
 {
     if wires.len() != b.inputs {
         return Verdict::Broken(Rule::WireForm, 0);
@@ -147,7 +152,7 @@ fn put_outputs(card: &[u32], inputs: &[u32], start: usize, out: &mut [u32], n: u
 
 // A's inputs keep their numbers.
 fn keep_inputs(m: usize, inputs: &mut [u32])
-    requires { ⌜ (m ≤ 1024) × (m ≤ length (now inputs)) ⌝ }
+    requires { ⌜ (m ≤ maxGraphs) × (m ≤ length (now inputs)) ⌝ }
     ensures { λ _. ⌜ now (inputs .exit) ≡ over m (λ i. i) (now (inputs .entry)) ⌝ }
 {
     let mut i = 0;
@@ -159,8 +164,8 @@ fn keep_inputs(m: usize, inputs: &mut [u32])
 
 // The same as a table.
 fn kept_inputs(m: usize) -> layout::Graphs
-    requires { ⌜ m ≤ 1024 ⌝ }
-    ensures { λ r. ⌜ (1024 ≡ length r) × (take m r ≡ tab (λ i. i) m) ⌝ }
+    requires { ⌜ m ≤ maxGraphs ⌝ }
+    ensures { λ r. ⌜ (maxGraphs ≡ length r) × (take m r ≡ tab (λ i. i) m) ⌝ }
 {
     let mut table = layout::graph_table();
     keep_inputs(m, &mut table);
@@ -181,7 +186,7 @@ fn wire_input(wires: &[u32], i: usize, due: usize, inputs: &[u32], start: usize)
 
 // The new numbers of B's inputs, where those of A's are given: free ones follow A's inputs in their order.
 fn wire_inputs(wires: &[u32], inputs: &[u32], start: usize, out: &mut [u32])
-    requires { ⌜ Named (now wires) × Numbered 2048 (now inputs) start × (length (now inputs) ≤ 1024) × (length (now wires) ≤ length (now out)) ⌝ }
+    requires { ⌜ LowWires (now wires) × Numbered 2048 (now inputs) start × (length (now inputs) ≤ maxGraphs) × (length (now wires) ≤ length (now out)) ⌝ }
     ensures { λ _. ⌜ now (out .exit) ≡ over (length (now (wires .entry))) (wiredInput (now (wires .entry)) (now (inputs .entry)) start) (now (out .entry)) ⌝ }
 {
     let mut due = inputs.len();
@@ -195,8 +200,8 @@ fn wire_inputs(wires: &[u32], inputs: &[u32], start: usize, out: &mut [u32])
 
 // The same as a table.
 fn wired_inputs(wires: &[u32], inputs: &[u32], start: usize) -> layout::Graphs
-    requires { ⌜ Named (now wires) × Numbered 2048 (now inputs) start × (length (now inputs) ≤ 1024) ⌝ }
-    ensures { λ r. ⌜ (1024 ≡ length r) × (take (length (now (wires .entry))) r ≡ tab (wiredInput (now (wires .entry)) (now (inputs .entry)) start) (length (now (wires .entry)))) ⌝ }
+    requires { ⌜ LowWires (now wires) × Numbered 2048 (now inputs) start × (length (now inputs) ≤ maxGraphs) ⌝ }
+    ensures { λ r. ⌜ (maxGraphs ≡ length r) × (take (length (now (wires .entry))) r ≡ tab (wiredInput (now (wires .entry)) (now (inputs .entry)) start) (length (now (wires .entry)))) ⌝ }
 {
     let mut table = layout::graph_table();
     wire_inputs(wires, inputs, start, &mut table);
@@ -225,7 +230,7 @@ fn write_parts(
 }
 
 // The words of the joined card go to the front of a buffer; the result is their number.
-pub fn write_joined(
+fn write_joined(
     a: &[u32],
     ca: Counts,
     b: &[u32],
@@ -233,7 +238,7 @@ pub fn write_joined(
     wires: &[u32],
     out: &mut [u32],
 ) -> usize
-    requires { ⌜ Accepts (now a) ca × Accepts (now b) cb × Named (now wires) × (length (now wires) ≡ cb .inputs) × (place (joinedCounts ca cb (now wires)) ≤ length (now out)) ⌝ }
+    requires { ⌜ Accepts (now a) ca × Accepts (now b) cb × LowWires (now wires) × (length (now wires) ≡ cb .inputs) × (cardLength (joinedCounts ca cb (now wires)) ≤ length (now out)) ⌝ }
     ensures { λ r. ⌜ (r ≡ length (joined ca cb (now (wires .entry)) (now (a .entry)) (now (b .entry))))
         × (now (out .exit) ≡ front (joined ca cb (now (wires .entry)) (now (a .entry)) (now (b .entry))) (now (out .entry))) ⌝ }
 {
@@ -251,6 +256,17 @@ pub fn write_joined(
     )
 }
 
+// The tests where so many bytes that make no word follow the wires: a leftover is a wrong number of wire words.
+fn test_wires(a: Counts, b: Counts, wires: &[u32], extra: usize, room: usize) -> Verdict
+    requires { ⌜ WithinLimits a b ⌝ }
+    ensures { λ r. ⌜ r ≡ firstBroken (wireTests a b (lent (now (wires .entry)) extra) (cardLength (joinedCounts a b (now (wires .entry)))) room) ⌝ }
+{
+    if 0 < extra {
+        return Verdict::Broken(Rule::WireForm, 0);
+    }
+    test_join(a, b, wires, room)
+}
+
 // Two accepted cards: the tests, and then the words.
 fn join_accepted(
     a: &[u32],
@@ -258,31 +274,70 @@ fn join_accepted(
     b: &[u32],
     cb: Counts,
     wires: &[u32],
+    odd: usize,
+    room: usize,
     card: &mut [u32],
-) -> Reply
-    requires { ⌜ Accepts (now a) ca × Accepts (now b) cb ⌝ }
-    ensures { λ r. ⌜ (r ≡ acceptedReply (now (a .entry)) ca (now (b .entry)) cb (now (wires .entry)) (now (card .entry)))
-        × (now (card .exit) ≡ acceptedBuffer (now (a .entry)) ca (now (b .entry)) cb (now (wires .entry)) (now (card .entry))) ⌝ }
+) -> Ended
+    requires { ⌜ Accepts (now a) ca × Accepts (now b) cb × (min room maxWords ≤ length (now card)) ⌝ }
+    ensures { λ r. ⌜ EndsAs (outcome (Accepted cb) (joinWork (whole (now (a .entry))) (whole (now (b .entry))) (lent (now (wires .entry)) odd) room ca)) room r
+        (now (card .entry)) (now (card .exit)) ⌝ }
 {
-    if let Verdict::Broken(rule, position) = test_join(ca, cb, wires, card.len()) {
-        return Reply::Refused(rule, position);
+    if let Verdict::Broken(rule, position) = test_wires(ca, cb, wires, odd, room) {
+        return Ended {
+            reply: Reply::Refused(rule, position),
+            words: 0,
+            more: 0,
+        };
     }
-    Reply::Done(write_joined(a, ca, b, cb, wires, card))
+    let n = write_joined(a, ca, b, cb, wires, card);
+    Ended {
+        reply: Reply::Done(n),
+        words: n,
+        more: 0,
+    }
+}
+
+// The work of a joining, for a buffer of `room` words; so many bytes that make no word follow the words of A, of B and of the wires. Positions in B count
+// on after A's words.
+pub fn join_with(
+    a: &[u32],
+    extra: usize,
+    b: &[u32],
+    left: usize,
+    wires: &[u32],
+    odd: usize,
+    room: usize,
+    card: &mut [u32],
+) -> Ended
+    requires { ⌜ min room maxWords ≤ length (now card) ⌝ }
+    ensures { λ r. ⌜ EndsAs (joinOutcome (lent (now (a .entry)) extra) (lent (now (b .entry)) left) (lent (now (wires .entry)) odd) room) room r
+        (now (card .entry)) (now (card .exit)) ⌝ }
+{
+    match cardcheck::check_with(a, extra) {
+        Answer::Refused(rule, position) => Ended {
+            reply: Reply::Refused(rule, position),
+            words: 0,
+            more: 0,
+        },
+        Answer::Accepted(ca) => match cardcheck::check_with(b, left) {
+            Answer::Refused(rule, position) => {
+                let at = a.len() + position;
+                Ended {
+                    reply: Reply::Refused(rule, at),
+                    words: 0,
+                    more: 0,
+                }
+            }
+            Answer::Accepted(cb) => join_accepted(a, ca, b, cb, wires, odd, room, card),
+        },
+    }
 }
 
 // Join: the words of A and of B and a wire word for each of B's inputs give one card's words, in the front of the buffer, and their number.
 pub fn join(a: &[u32], b: &[u32], wires: &[u32], card: &mut [u32]) -> Reply
-    ensures { λ r. ⌜ (replyTold r ≡ joinTold (now (a .entry)) (now (b .entry)) (now (wires .entry)) (now (card .entry)))
-        × (now (card .exit) ≡ joinBuffer (now (a .entry)) (now (b .entry)) (now (wires .entry)) (now (card .entry))) ⌝ }
+    ensures { λ r. ⌜ ByWords (joinOutcome (whole (now (a .entry))) (whole (now (b .entry))) (whole (now (wires .entry)))) r
+        (now (card .entry)) (now (card .exit)) ⌝ }
 {
-    match cardcheck::check(a) {
-        Answer::Refused(rule, position) => Reply::Refused(rule, position),
-        Answer::Accepted(ca) => match cardcheck::check(b) {
-            Answer::Refused(rule, position) => {
-                let at = a.len() + position;
-                Reply::Refused(rule, at)
-            }
-            Answer::Accepted(cb) => join_accepted(a, ca, b, cb, wires, card),
-        },
-    }
+    let end = join_with(a, 0, b, 0, wires, 0, card.len(), card);
+    end.reply
 }

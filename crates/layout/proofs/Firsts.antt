@@ -43,8 +43,8 @@ module _ (ws : List ℕ) where
     | no m ↦ omega (arith, first-above h g i (omega arith) q)
   ]
 
-  pub one-place : (g h k i : ℕ) → k < size ws g → i < size ws h → first ws g + k ≡ first ws h + i → (h ≡ g) × (i ≡ k)
-  one-place g h k i p q e = elim (ℕ-discrete h g) [
+  pub one-node : (g h k i : ℕ) → k < size ws g → i < size ws h → first ws g + k ≡ first ws h + i → (h ≡ g) × (i ≡ k)
+  one-node g h k i p q e = elim (ℕ-discrete h g) [
     | yes z ↦ (z, omega (arith, ap (first ws) z))
     | no n ↦ absurd (apart g h k i n p q e)
   ]

@@ -1,4 +1,4 @@
 -- What the proofs of all that walks through a card cite: where its graphs and nodes stand.
 pub mod Firsts
 pub mod Stands
-pub mod Places
+pub mod NodeNumbers

@@ -8,7 +8,7 @@ use borrow.Author.Tests.{lt-ltb, le-ltb}
 use Rattle.answers.specs.declared.Counts.{Counts}
 use Rattle.layout.specs.Layout.{first, size, standsIn}
 use Rattle.layout.specs.Shape.{Shape}
-use Rattle.layout.proofs.Firsts.{first-next, one-place, node-below}
+use Rattle.layout.proofs.Firsts.{first-next, one-node, node-below}
 
 -- each node below those of graph G stands in a graph
 pub owner : (ws : List ℕ) (G p : ℕ) → p < first ws G
@@ -28,4 +28,4 @@ stands-in {ws} {c} a g k l i =
     let p = first ws g + k in
     let h = standsIn ws p (c .graphs) in
     let r = owner ws (c .graphs) p (rw (a .nodes-in) (node-below a g k l i)) in
-    one-place ws g h k (p - first ws h) i (omega arith) (omega arith) .0
+    one-node ws g h k (p - first ws h) i (omega arith) (omega arith) .0

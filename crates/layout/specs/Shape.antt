@@ -5,6 +5,7 @@ use mathlib.Core.List.{List}
 use mathlib.Core.Bool.{true, false}
 use lib.ListN.{length}
 use Rattle.lists.specs.Counting.{count}
+use Rattle.answers.specs.Limits.{maxGraphs, maxNodes}
 use Rattle.answers.specs.declared.Counts.{Counts}
 use Rattle.layout.specs.Layout.{first, isInput, observable, size, reads, exits}
 
@@ -18,8 +19,8 @@ ExitsLater ws g = (k d l : ℕ) → k < size ws g → exits ws g k d ≡ suc (su
 -- What is known of the graphs that c counts, while a card is read and after.
 pub record Shape (ws : List ℕ) (c : Counts) : Type 0 where
   pub fits : c .graphs + 2 * c .nodes ≤ length ws
-  pub few-graphs : c .graphs ≤ 1024
-  pub few-nodes : c .nodes ≤ 4096
+  pub few-graphs : c .graphs ≤ maxGraphs
+  pub few-nodes : c .nodes ≤ maxNodes
   pub all-faults : c .faults ≡ 2 * c .nodes + 2 * c .graphs
   pub nodes-in : first ws (c .graphs) ≡ c .nodes
   pub inputs-in : c .inputs ≤ c .graphs

@@ -4,52 +4,58 @@ ghost use Prim.Native.Nat.{_+_, _*_, _-_, _≤_, _<_};
 ghost use lib.ListN.{length, getD};
 ghost use Rattle.lists.specs.Tables.{over};
 ghost use Rattle.word32.specs.Fields.{readGraph, exitOf};
+ghost use Rattle.answers.specs.Limits.{maxGraphs, maxNodes, maxWords, maxSites, maxFaults};
 ghost use Rattle.layout.specs.Layout.{first, observable};
 ghost use Rattle.layout.specs.Shape.{Shape};
 ghost use Rattle.layout.specs.Tables.{Decided, Walkable};
 use answers::Counts;
+use answers::MAX_FAULTS;
+use answers::MAX_GRAPHS;
+use answers::MAX_NODES;
+use answers::MAX_SITES;
+use answers::MAX_WORDS;
 
-// A word for each graph, and for each place, of any card.
-pub type Graphs = [u32; 1024];
+// A word for each graph, and for each site, of any card.
+pub type Graphs = [u32; MAX_GRAPHS];
 
-pub type Places = [u32; 5120];
+pub type Sites = [u32; MAX_SITES];
 
-// Room for the words of any card; and for a word for each of its graphs, nodes, places and faults.
-pub fn card_table() -> [u32; 9216]
-    ensures { λ r. ⌜ 9216 ≡ length r ⌝ }
+// Room for the words of any card; and for a word for each of its graphs, nodes, sites and faults.
+pub fn card_table() -> [u32; MAX_WORDS]
+    ensures { λ r. ⌜ maxWords ≡ length r ⌝ }
 {
-    [0u32; 9216]
+    [0u32; MAX_WORDS]
 }
 
 pub fn graph_table() -> Graphs
-    ensures { λ r. ⌜ 1024 ≡ length r ⌝ }
+    ensures { λ r. ⌜ maxGraphs ≡ length r ⌝ }
 {
-    [0u32; 1024]
+    [0u32; MAX_GRAPHS]
 }
 
-pub fn node_table() -> [u32; 4096]
-    ensures { λ r. ⌜ 4096 ≡ length r ⌝ }
+pub fn node_table() -> [u32; MAX_NODES]
+    ensures { λ r. ⌜ maxNodes ≡ length r ⌝ }
 {
-    [0u32; 4096]
+    [0u32; MAX_NODES]
 }
 
-pub fn place_table() -> Places
-    ensures { λ r. ⌜ 5120 ≡ length r ⌝ }
+pub fn site_table() -> Sites
+    ensures { λ r. ⌜ maxSites ≡ length r ⌝ }
 {
-    [0u32; 5120]
+    [0u32; MAX_SITES]
 }
 
-pub fn fault_table() -> [u32; 10240]
-    ensures { λ r. ⌜ 10240 ≡ length r ⌝ }
+pub fn fault_table() -> [u32; MAX_FAULTS]
+    ensures { λ r. ⌜ maxFaults ≡ length r ⌝ }
 {
-    [0u32; 10240]
+    [0u32; MAX_FAULTS]
 }
 
 // Room for the first nodes of any card, and for the number of nodes after them.
-pub fn first_table() -> [u32; 1025]
-    ensures { λ r. ⌜ 1025 ≡ length r ⌝ }
+pub fn first_table() -> [u32; MAX_GRAPHS + 1]
+    ensures { λ r. ⌜ maxGraphs + 1 ≡ length r ⌝ }
 {
-    [0u32; 1025]
+    [0u32; MAX_GRAPHS + 1]
 }
 
 // The first node of each graph of an accepted card, and after the last the number of nodes.
@@ -67,7 +73,7 @@ pub fn first_nodes(card: &[u32], c: Counts, firsts: &mut [u32])
     firsts[g] = n as u32;
 }
 
-// The first node of graph g.
+// The first node of graph g. Here and above, `firsts` is a table that begins with the first nodes: that of these alone, or a card's tables.
 pub fn first_node(firsts: &[u32], g: usize) -> usize
     requires { ⌜ g < length (now firsts) ⌝ }
     ensures { λ r. ⌜ r ≡ getD (now (firsts .entry)) g 0 ⌝ }

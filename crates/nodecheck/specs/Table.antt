@@ -14,6 +14,7 @@ use Rattle.answers.specs.declared.Verdict.the-variants.{Sound, Broken}
 use Rattle.nodecheck.specs.declared.Exits.{Exits}
 use Rattle.nodecheck.specs.declared.Exits.the-variants as exits
 use Rattle.reader.specs.Due.{dueAt}
+use Rattle.answers.specs.Limits.{maxNodes}
 use Rattle.reader.specs.declared.Due.{Due}
 use Rattle.form.specs.Check.{word, readVerdict, exitsVerdict, nodesVerdict, names, unnamed}
 
@@ -37,7 +38,7 @@ nameExit (suc (suc l)) t = set t l 1
 
 -- no node is named
 pub record Blank (t : List ℕ) : Type 0 where
-  pub long : length t ≡ 4096
+  pub long : length t ≡ maxNodes
   pub zeros : (i : ℕ) → getD t i 0 ≡ 0
 
 -- the table has 1 for each local node below n that an exit of the first k nodes names, and else 0

@@ -2,15 +2,17 @@
 ghost use mathlib.Core.Path.{_≡_};
 ghost use Prim.Native.Nat.{_-_, _≤_, _<_};
 ghost use lib.ListN.{length};
+ghost use Rattle.answers.specs.Limits.{maxNodes};
 ghost use Rattle.form.specs.Check.{misplaced};
 ghost use Rattle.nodecheck.specs.Table.{ReadWord, ReadTold, ExitsWord, ExitsOf, nameExit, Blank, ExitsTold, NodesTold, zeroAfter, UnnamedTold};
+use answers::MAX_NODES;
 use answers::Rule;
 use answers::Verdict;
 use reader::Due;
 use reader::Reader;
 
 // A word for each local node of any graph: 1 where an exit names it, and else 0.
-pub type Named = [u32; 4096];
+pub type Named = [u32; MAX_NODES];
 
 // A node's two exits, where they are sound.
 enum Exits {
@@ -22,11 +24,11 @@ enum Exits {
 pub fn none_named() -> Named
     ensures { λ r. ⌜ Blank r ⌝ }
 {
-    [0u32; 4096]
+    [0u32; MAX_NODES]
 }
 
 // The word w at a place, as the read of a node in graph g.
-fn read_word(w: u32, at: usize, g: usize) -> Verdict
+fn word_as_read(w: u32, at: usize, g: usize) -> Verdict
     ensures { λ r. ⌜ ReadWord w at g r ⌝ }
 {
     if word32::kind(w) != 3 {
@@ -46,14 +48,14 @@ fn check_read(due: Due, g: usize) -> Verdict
     ensures { λ r. ⌜ ReadTold due g r ⌝ }
 {
     match due {
-        Due::Word(w, at) => read_word(w, at, g),
+        Due::Word(w, at) => word_as_read(w, at, g),
         Due::End(len) => Verdict::Broken(Rule::WordNotDue, len),
     }
 }
 
 // Whether exit e of local node k is no constant and no later node of a graph of n nodes.
 fn is_misplaced(n: usize, k: usize, e: usize) -> bool
-    requires { ⌜ (n ≤ 4096) × (k < n) ⌝ }
+    requires { ⌜ (n ≤ maxNodes) × (k < n) ⌝ }
     ensures { λ r. ⌜ r ≡ misplaced n k e ⌝ }
 {
     if e <= 1 {
@@ -66,8 +68,8 @@ fn is_misplaced(n: usize, k: usize, e: usize) -> bool
 }
 
 // The word w at a place, as the exits of local node k in a graph of n nodes.
-fn exits_word(w: u32, at: usize, n: usize, k: usize) -> Exits
-    requires { ⌜ (n ≤ 4096) × (k < n) ⌝ }
+fn word_as_exits(w: u32, at: usize, n: usize, k: usize) -> Exits
+    requires { ⌜ (n ≤ maxNodes) × (k < n) ⌝ }
     ensures { λ r. ⌜ ExitsWord w at n k r ⌝ }
 {
     let e0 = word32::exit0(w);
@@ -89,11 +91,11 @@ fn exits_word(w: u32, at: usize, n: usize, k: usize) -> Exits
 
 // The exits of local node k in a graph of n nodes, from what was due.
 fn read_exits(due: Due, n: usize, k: usize) -> Exits
-    requires { ⌜ (n ≤ 4096) × (k < n) ⌝ }
+    requires { ⌜ (n ≤ maxNodes) × (k < n) ⌝ }
     ensures { λ r. ⌜ ExitsOf due n k r ⌝ }
 {
     match due {
-        Due::Word(w, at) => exits_word(w, at, n, k),
+        Due::Word(w, at) => word_as_exits(w, at, n, k),
         Due::End(len) => Exits::Bad(Rule::WordNotDue, len),
     }
 }
@@ -111,7 +113,7 @@ fn name_exit(table: &mut Named, e: usize)
 
 // The exits of local node k in a graph of n nodes, from what was due; what they name goes into the table.
 fn check_exits(due: Due, n: usize, k: usize, table: &mut Named) -> Verdict
-    requires { ⌜ (n ≤ 4096) × (k < n) ⌝ }
+    requires { ⌜ (n ≤ maxNodes) × (k < n) ⌝ }
     ensures { λ r. ⌜ ExitsTold due n k (now (table .entry)) (now (table .exit)) r ⌝ }
 {
     match read_exits(due, n, k) {
@@ -126,7 +128,7 @@ fn check_exits(due: Due, n: usize, k: usize, table: &mut Named) -> Verdict
 
 // The n nodes of graph g, from where the reader stands, just after the header. The table, blank at first, then has the local nodes that exits name.
 pub fn check_nodes<'s, 'a>(r: &'s mut Reader<'a>, g: usize, n: usize, table: &mut Named) -> Verdict
-    requires { ⌜ (n ≤ 4096) × (0 < now r .at) × Blank (now table) ⌝ }
+    requires { ⌜ (n ≤ maxNodes) × (0 < now r .at) × Blank (now table) ⌝ }
     ensures { λ v. ⌜ NodesTold (now (now (r .entry) .words)) (now (r .entry) .at - 1) g n (now (table .exit)) (now (r .exit) .at) v
         × (now (r .exit) .words ≡ now (r .entry) .words) ⌝ }
 {
@@ -162,7 +164,7 @@ fn has_unnamed(table: &[u32], n: usize) -> bool
 
 // Whether a local node of a graph of n nodes is not named, by the table that `check_nodes` left; and the table is blank again.
 pub fn take_unnamed(table: &mut Named, n: usize) -> bool
-    requires { ⌜ n ≤ 4096 ⌝ }
+    requires { ⌜ n ≤ maxNodes ⌝ }
     ensures { λ r. ⌜ UnnamedTold n (now (table .entry)) (now (table .exit)) r ⌝ }
 {
     let unnamed = has_unnamed(table, n);

@@ -1,10 +1,8 @@
 -- HOW A CALL ON A CARD OPENS: the card's check, and then the form of its vectors, one or a list. Assumes nothing.
 use Rattle.answers.specs.declared.Answer.{Answer}
-use Rattle.answers.specs.Calls.{opened}
-use Rattle.answers.specs.Outcomes.{Lent}
-use Rattle.form.specs.Lent.{lentCheck}
-use Rattle.testvectors.specs.Vectors.{vectorVerdict, listVerdict}
-use Rattle.testvectors.specs.Lent.{lentForm}
+use Rattle.answers.specs.Calls.{Lent, opened}
+use Rattle.form.specs.Check.{lentCheck}
+use Rattle.testvectors.specs.Vectors.{vectorVerdict, listVerdict, lentForm}
 
 abbrev pub openedVector : Lent → Lent → Answer
 openedVector card v = opened (lentCheck card) (λ c. lentForm vectorVerdict (c .inputs) v)

@@ -8,11 +8,11 @@ use lib.ListN.{length, getD, set, length-set}
 use lib.Seq.{getD-set-same, getD-set-other}
 use Rattle.word32.specs.Fields.{readGraph}
 use Rattle.layout.specs.Layout.{first, size, decision}
-use Rattle.layout.proofs.Firsts.{one-place, node-below}
+use Rattle.layout.proofs.Firsts.{one-node, node-below}
 use Rattle.answers.specs.declared.Counts.{Counts}
 use Rattle.layout.specs.Shape.{Shape}
 use Rattle.layout.specs.Tables.{Decided, Ready}
-use Rattle.layout.proofs.Places.{walkable, place-is, read-is, decision-is}
+use Rattle.layout.proofs.NodeNumbers.{walkable, node-number, read-is, decision-is}
 use Rattle.testvectors.specs.Vectors.{bit}
 use Rattle.value.specs.Settings.{faulty}
 use Rattle.value.proofs.Settings.{faulty-keeps}
@@ -29,7 +29,7 @@ nothing-known {ws} {c} fs x xs s l e = record {
 }
 
 module _ (t : Run) {firsts : List ℕ} (y : Ready (t .card) (t .counts) firsts) where
-  -- a value saved at its place
+  -- a value saved at its site
   pub save-node : {xs : List ℕ} → Saved t xs → (g k v : ℕ) → g < t .counts .graphs → k < size (t .card) g → v ≡ nodeOf t g k
       → Saved t (set xs (first (t .card) g + k) v)
   save-node {xs} s g k v h l e =
@@ -39,7 +39,7 @@ module _ (t : Run) {firsts : List ℕ} (y : Ready (t .card) (t .counts) firsts) 
         long = simp length-set (s .long);
         nodes = λ i j h′ l′ b. elim (ℕ-discrete (first (t .card) i + j) p) [
           | yes z ↦
-              let (a, c) = one-place (t .card) g i k j l l′ (sym z) in
+              let (a, c) = one-node (t .card) g i k j l l′ (sym z) in
               rw (a, c) (getD-set-same xs p v 0 (omega (arith, s .long)) ∙ e)
           | no n ↦
               let q = getD-set-other xs p (first (t .card) i + j) v 0 n in
@@ -71,11 +71,11 @@ module _ (t : Run) {firsts : List ℕ} (y : Ready (t .card) (t .counts) firsts) 
   module _ {g k f : ℕ} (h : g < t .counts .graphs) (l : k < size (t .card) g) (e : f ≡ getD firsts g 0) where
     pub node-known : {xs : List ℕ} {r : ℕ} → Saved t xs → r ≡ getD xs (f + k) 0 → r < 2 → FoundNode t g k r xs
     node-known {xs} s q b =
-        let z = q ∙ ap (λ (n : ℕ). getD xs n 0) (place-is (walkable y h) l e) in
+        let z = q ∙ ap (λ (n : ℕ). getD xs n 0) (node-number (walkable y h) l e) in
         record { right = z ∙ s .nodes g k h l (rw z at b); saved = s }
 
     pub node-saved : {xs ys : List ℕ} {v : ℕ} → Saved t xs → v ≡ nodeOf t g k → ys ≡ set xs (f + k) v → FoundNode t g k v ys
-    node-saved s w u = record { right = w; saved = rw (u, place-is (walkable y h) l e) (save-node s g k _ h l w) }
+    node-saved s w u = record { right = w; saved = rw (u, node-number (walkable y h) l e) (save-node s g k _ h l w) }
 
     -- its decision, once the graph that it reads is found
     pub decision-found : {r v d : ℕ} {xs : List ℕ} → r ≡ readGraph (getD (t .card) (g + 1 + 2 * (f + k)) 0) → FoundGraph t r v xs

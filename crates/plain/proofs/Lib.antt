@@ -2,4 +2,3 @@
 mod Laws
 pub mod Lists
 pub mod Done
-pub mod Old

@@ -1,48 +1,31 @@
 -- The calls that work a card out afresh: document 01, 'Calls', and document 02, 'Several faults at once'. Assumes nothing.
 use Prim.Native.Nat.{ℕ}
 use mathlib.Core.List.{List, [], _∷_}
-use lib.ListN.{length}
 use lib.Dec.{ltb}
-use Rattle.lists.specs.Tables.{over}
+use Rattle.lists.specs.Tables.{tab}
 use Rattle.answers.specs.declared.Counts.{Counts}
-use Rattle.answers.specs.declared.Reply.{Reply}
 use Rattle.answers.specs.declared.Rule.the-variants.{BufferTooShort}
-use Rattle.answers.specs.Answers.{Told, replyTold}
 use Rattle.answers.specs.Tests.{Test, test}
-use Rattle.form.specs.Check.{checked}
-use Rattle.answers.specs.Calls.{callTests, replied, written}
-use Rattle.testvectors.specs.Vectors.{vectorVerdict}
 use Rattle.value.specs.Settings.{Setting, good, faulty}
 use Rattle.value.specs.Values.{value}
 use Rattle.faultlist.specs.Faults.{faultTests}
+use Rattle.answers.specs.Calls.{Lent, Outcome, Work, work, outcome}
+use Rattle.opening.specs.Opened.{openedVector}
 
--- a call with its own tests, under a setting: the reply, and the buffer, whose first G words are the graphs' values
-abbrev pub valuesReply : (Counts → List Test) → List ℕ → List ℕ → Reply
-valuesReply own ws x = replied (checked ws) (λ c. callTests (vectorVerdict (c .inputs) x) (own c)) (λ c. 0)
+-- a call with its own tests, under a setting: a word for each graph, its value
+abbrev pub valuesWork : (Counts → List Test) → Setting → List ℕ → List ℕ → Counts → Work
+valuesWork own s ws x c = work (own c) 0 (tab (value ws c s x) (c .graphs))
 
-abbrev pub valuesBuffer : (Counts → List Test) → Setting → List ℕ → List ℕ → List ℕ → List ℕ
-valuesBuffer own s ws x b =
-    written (checked ws) (λ c. callTests (vectorVerdict (c .inputs) x) (own c)) (λ c. over (c .graphs) (value ws c s x) b) b
+abbrev pub valuesOutcome : (Counts → List Test) → Setting → Lent → Lent → Outcome
+valuesOutcome own s card v = outcome (openedVector card v) (valuesWork own s (card .words) (v .words))
 
 -- GOOD VALUES: no fault is in, and a buffer of `room` words has to be long enough
 unfoldable pub goodTests : ℕ → Counts → List Test
 goodTests room c = test (ltb room (c .graphs)) BufferTooShort 0 ∷ []
 
-abbrev pub goodReply : List ℕ → List ℕ → List ℕ → Reply
-goodReply ws x b = valuesReply (goodTests (length b)) ws x
-
-abbrev pub goodTold : List ℕ → List ℕ → List ℕ → Told
-goodTold ws x b = replyTold (goodReply ws x b)
-
-abbrev pub goodBuffer : List ℕ → List ℕ → List ℕ → List ℕ
-goodBuffer ws x b = valuesBuffer (goodTests (length b)) good ws x b
+abbrev pub goodOutcome : Lent → Lent → ℕ → Outcome
+goodOutcome card v room = valuesOutcome (goodTests room) good card v
 
 -- VALUES WITH THE FAULTS fs, all holding together
-abbrev pub faultReply : List ℕ → List ℕ → List ℕ → List ℕ → Reply
-faultReply ws x fs b = valuesReply (faultTests 0 fs (length b)) ws x
-
-abbrev pub faultTold : List ℕ → List ℕ → List ℕ → List ℕ → Told
-faultTold ws x fs b = replyTold (faultReply ws x fs b)
-
-abbrev pub faultBuffer : List ℕ → List ℕ → List ℕ → List ℕ → List ℕ
-faultBuffer ws x fs b = valuesBuffer (faultTests 0 fs (length b)) (faulty fs) ws x b
+abbrev pub faultOutcome : Lent → Lent → Lent → ℕ → Outcome
+faultOutcome card v fs room = valuesOutcome (faultTests (fs .extra) (fs .words) room) (faulty (fs .words)) card v

@@ -6,7 +6,7 @@ use lib.ListN.{length, getD}
 use Rattle.layout.specs.Layout.{first, size}
 use Rattle.value.specs.Run.{Run, graphOf, nodeOf}
 
--- the buffer has a word for each place, and each word below 2 is that place's value
+-- the buffer has a word for each site, and each word below 2 is that site's value
 pub record Saved (t : Run) (xs : List ℕ) : Type 0 where
   pub long : t .counts .nodes + t .counts .graphs ≤ length xs
   pub nodes : (g k : ℕ) → g < t .counts .graphs → k < size (t .card) g → getD xs (first (t .card) g + k) 0 < 2
@@ -18,7 +18,7 @@ pub record FoundNode (t : Run) (g k r : ℕ) (xs : List ℕ) : Type 0 where
   pub right : r ≡ nodeOf t g k
   pub saved : Saved t xs
 
--- the same of a graph, whose value stands at its place
+-- the same of a graph, whose value stands at its site
 pub record FoundGraph (t : Run) (g r : ℕ) (xs : List ℕ) : Type 0 where
   pub right : r ≡ graphOf t g
   pub there : getD xs (t .counts .nodes + g) 0 ≡ graphOf t g

@@ -1,10 +1,9 @@
 // The plain path: a card worked out afresh on demand, with no fault or with those of a list. A node's value calls for the value of the graph that it
-// reads, and that for its entrance's; each found value is saved in a lent buffer, a word for each place.
+// reads, and that for its entrance's; each found value is saved in a lent buffer, a word for each site.
 ghost use mathlib.Core.Path.{_≡_};
-ghost use Prim.Native.Nat.{ℕ, _≤_, _<_};
+ghost use Prim.Native.Nat.{ℕ, _≤_, _<_, min};
 ghost use lib.ListN.{length, getD};
 ghost use Rattle.lists.specs.Tables.{over};
-ghost use Rattle.answers.specs.Answers.{replyTold};
 ghost use Rattle.layout.specs.Layout.{size};
 ghost use Rattle.layout.specs.Shape.{Shape};
 ghost use Rattle.layout.specs.Tables.{Ready};
@@ -13,10 +12,15 @@ ghost use Rattle.testvectors.specs.Parts.{Wide};
 ghost use Rattle.value.specs.Settings.{faulty};
 ghost use Rattle.value.specs.Values.{value};
 ghost use Rattle.value.specs.Run.{run};
-ghost use Rattle.plain.specs.Calls.{goodTold, goodBuffer, faultTold, faultBuffer};
+ghost use Rattle.answers.specs.Limits.{maxGraphs, maxSites};
+ghost use Rattle.answers.specs.Calls.{lent, whole, ByWords};
+ghost use Rattle.answers.specs.Ends.{EndsAs};
+ghost use Rattle.plain.specs.Calls.{goodOutcome, faultOutcome};
 ghost use Rattle.plain.specs.Saved.{Saved, FoundNode, FoundGraph};
 use answers::Answer;
 use answers::Counts;
+use answers::Ended;
+use answers::MAX_SITES;
 use answers::Reply;
 use answers::Verdict;
 
@@ -52,7 +56,7 @@ fn node_value(
     v
 }
 
-// The value of graph g, which then stands at the graph's place.
+// The value of graph g, which then stands at the graph's site.
 fn graph_value(
     card: &[u32],
     c: Counts,
@@ -65,27 +69,27 @@ fn graph_value(
     requires { ⌜ Ready (now card) c (now firsts) × Wide (c .inputs) (now vector) × (g < c .graphs) × Saved (run (now card) c (now faults) (now vector)) (now saved) ⌝ }
     ensures { λ r. ⌜ FoundGraph (run (now (card .entry)) c (now (faults .entry)) (now (vector .entry))) g r (now (saved .exit)) ⌝ }
 {
-    let place = c.nodes + g;
-    let known = lists::get(saved, place);
+    let site = c.nodes + g;
+    let known = lists::get(saved, site);
     if known < 2 {
         return known;
     }
     if g < c.inputs {
-        let input = value::set_at(faults, place, testvectors::bit(vector, g));
-        lists::put(saved, place, input);
+        let input = value::set_at(faults, site, testvectors::bit(vector, g));
+        lists::put(saved, site, input);
         return input;
     }
     let entrance = node_value(card, c, firsts, vector, faults, g, 0, saved);
-    let v = value::set_at(faults, place, entrance);
-    lists::put(saved, place, v);
+    let v = value::set_at(faults, site, entrance);
+    lists::put(saved, site, v);
     v
 }
 
-// Room for the values of all places of any card, none of them known: a value is 0 or 1.
-fn unknown() -> [u32; 5120]
-    ensures { λ r. ⌜ (5120 ≡ length r) × ((i : ℕ) → i < 5120 → getD r i 0 ≡ 2) ⌝ }
+// Room for the values of all sites of any card, none of them known: a value is 0 or 1.
+fn unknown() -> [u32; MAX_SITES]
+    ensures { λ r. ⌜ (maxSites ≡ length r) × ((i : ℕ) → i < maxSites → getD r i 0 ≡ 2) ⌝ }
 {
-    [2u32; 5120]
+    [2u32; MAX_SITES]
 }
 
 // The values of all graphs, with the faults of a list in.
@@ -103,31 +107,58 @@ pub fn work_out(card: &[u32], c: Counts, vector: &[u32], faults: &[u32], values:
     }
 }
 
-// Values with the faults of a list in, all holding together: one word 0 or 1 for each graph.
-pub fn fault_values(card: &[u32], vector: &[u32], faults: &[u32], values: &mut [u32]) -> Reply
-    ensures { λ r. ⌜ (replyTold r ≡ faultTold (now (card .entry)) (now (vector .entry)) (now (faults .entry)) (now (values .entry)))
-        × (now (values .exit) ≡ faultBuffer (now (card .entry)) (now (vector .entry)) (now (faults .entry)) (now (values .entry))) ⌝ }
+// Values with the faults of a list in, all holding together: one word 0 or 1 for each graph; for a buffer of `room` words.
+pub fn fault_values_with(
+    card: &[u32],
+    extra: usize,
+    vector: &[u32],
+    left: usize,
+    faults: &[u32],
+    odd: usize,
+    room: usize,
+    values: &mut [u32],
+) -> Ended
+    requires { ⌜ min room maxGraphs ≤ length (now values) ⌝ }
+    ensures { λ r. ⌜ EndsAs (faultOutcome (lent (now (card .entry)) extra) (lent (now (vector .entry)) left) (lent (now (faults .entry)) odd) room)
+        room r (now (values .entry)) (now (values .exit)) ⌝ }
 {
-    match opening::open_vector(card, vector) {
-        Answer::Refused(rule, position) => Reply::Refused(rule, position),
+    match opening::open_vector(card, extra, vector, left) {
+        Answer::Refused(rule, position) => Ended {
+            reply: Reply::Refused(rule, position),
+            words: 0,
+            more: 0,
+        },
         Answer::Accepted(c) => {
-            if let Verdict::Broken(rule, position) = faultlist::test_faults(
-                c,
-                faults,
-                values.len(),
-            ) {
-                return Reply::Refused(rule, position);
+            if let Verdict::Broken(rule, position) = faultlist::test_faults(c, faults, odd, room) {
+                return Ended {
+                    reply: Reply::Refused(rule, position),
+                    words: 0,
+                    more: 0,
+                };
             }
             work_out(card, c, vector, faults, values);
-            Reply::Done(0)
+            Ended {
+                reply: Reply::Done(0),
+                words: c.graphs,
+                more: 0,
+            }
         }
     }
 }
 
+// The same by words, for the whole of a buffer.
+pub fn fault_values(card: &[u32], vector: &[u32], faults: &[u32], values: &mut [u32]) -> Reply
+    ensures { λ r. ⌜ ByWords (faultOutcome (whole (now (card .entry))) (whole (now (vector .entry))) (whole (now (faults .entry))))
+        r (now (values .entry)) (now (values .exit)) ⌝ }
+{
+    let end = fault_values_with(card, 0, vector, 0, faults, 0, values.len(), values);
+    end.reply
+}
+
 // Good values: those of the empty list.
 pub fn good_values(card: &[u32], vector: &[u32], values: &mut [u32]) -> Reply
-    ensures { λ r. ⌜ (replyTold r ≡ goodTold (now (card .entry)) (now (vector .entry)) (now (values .entry)))
-        × (now (values .exit) ≡ goodBuffer (now (card .entry)) (now (vector .entry)) (now (values .entry))) ⌝ }
+    ensures { λ r. ⌜ ByWords (goodOutcome (whole (now (card .entry))) (whole (now (vector .entry))))
+        r (now (values .entry)) (now (values .exit)) ⌝ }
 {
     let none = [0u32; 1];
     fault_values(card, vector, &none[..0], values)

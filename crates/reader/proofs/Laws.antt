@@ -44,11 +44,11 @@ abbrev pub listOf : Due → List ℕ
 listOf (Word w at) = replicate (suc at) w
 listOf (End n) = replicate n 0
 
-abbrev pub placeOf : Due → ℕ
-placeOf (Word w at) = at
-placeOf (End n) = n
+abbrev pub positionOf : Due → ℕ
+positionOf (Word w at) = at
+positionOf (End n) = n
 
-pub some-list : (d : Due) → d ≡ dueAt (listOf d) (placeOf d)
+pub some-list : (d : Due) → d ≡ dueAt (listOf d) (positionOf d)
 unfolding dueAt
 some-list (Word w at) =
     let h : at < length (replicate (suc at) w) = omega (arith, length-replicate (suc at) w) in

@@ -21,12 +21,15 @@ use Rattle.answers.specs.declared.Answer.the-variants.{Accepted, Refused}
 use Rattle.answers.specs.Answers.{numberOf}
 use Rattle.form.specs.Check.{checked}
 use Rattle.answers.specs.Tests.{onward}
-use Rattle.answers.specs.Calls.{opened}
+use Rattle.answers.specs.Calls.{whole, opened}
 use Rattle.answers.proofs.Calls.{opened-accepted}
 use Rattle.cardtables.specs.Stems.{total}
-use Rattle.testvectors.specs.Vectors.{listVerdict}
+use Rattle.testvectors.specs.Vectors.{listVerdict, lentForm}
+use Rattle.testvectors.specs.Lists.{listWords, lentList}
+use Rattle.testvectors.proofs.Lists.{bytes-alone}
+use Rattle.opening.specs.Opened.{openedList}
 use Rattle.detect.specs.Grading.{mark, tally, marked}
-use Rattle.grade.specs.Graded.{Listed}
+use Rattle.grade.specs.Graded.{GradedList}
 use Rattle.report.specs.Text.{shortLine, longLine, refusedLine, faultLine, faultLines, gradingText}
 use Rattle.report.specs.Report.{unlessBroken, ifAccepted, gradedText, wordCount, cardBytes, vectorBytes, textOf, bytesWanted}
 
@@ -109,25 +112,33 @@ module _ (b : List ℕ) where
   pub text-front : textOf (take (bytesWanted (take 4 b)) b) ≡ textOf b
   text-front = front-text (bytesWanted (take 4 b)) (omega (arith, wanted-front))
 
--- the refusal of the card or of the list, and the grading
-module _ (ws xs : List ℕ) where
-  pub graded-refused : {r : Rule} {p : ℕ} → opened (checked ws) (λ c. listVerdict (c .inputs) xs) ≡ Refused r p → gradedText ws xs ≡ refusedLine (numberOf r) p
+-- the refusal of the card or of the list, whose bytes are whole words, and the grading
+module _ (ws bs : List ℕ) (h : length bs % 4 ≡ 0) where
+  opened-words : openedList (whole ws) (lentList [] bs) ≡ opened (checked ws) (λ c. listVerdict (c .inputs) (wordsOf bs))
+  unfolding lentForm
+  opened-words =
+      let same : lentList [] bs ≡ whole (wordsOf bs) = rw (bytes-alone bs, h) in
+      ap (openedList (whole ws)) same
+
+  pub graded-refused : {r : Rule} {p : ℕ} → openedList (whole ws) (lentList [] bs) ≡ Refused r p → gradedText ws (wordsOf bs) ≡ refusedLine (numberOf r) p
   unfolding gradedText
-  graded-refused {r} {p} e = of (checked ws) (λ c. gradingText c (mark ws c xs) (tally ws c xs) (marked ws c xs) (total ws c)) e
+  graded-refused {r} {p} e = of (checked ws) _ (sym opened-words ∙ e)
     where
       list : (v : Verdict) (c : Counts) (text : List ℕ) → onward v (Accepted c) ≡ Refused r p → unlessBroken v text ≡ refusedLine (numberOf r) p
       list Sound c text z = let f : _≡_ {A = ℕ} 0 1 = cc in absurd (omega arith)
       list (Broken r′ p′) c text z = let f : r′ ≡ r = cc in let g : p′ ≡ p = cc in rw (f, g)
 
-      of : (a : Answer) (text : Counts → List ℕ) → opened a (λ c. listVerdict (c .inputs) xs) ≡ Refused r p
-          → ifAccepted a (λ c. unlessBroken (listVerdict (c .inputs) xs) (text c)) ≡ refusedLine (numberOf r) p
-      of (Accepted c) text z = list (listVerdict (c .inputs) xs) c (text c) z
+      of : (a : Answer) (text : Counts → List ℕ) → opened a (λ c. listVerdict (c .inputs) (wordsOf bs)) ≡ Refused r p
+          → ifAccepted a (λ c. unlessBroken (listVerdict (c .inputs) (wordsOf bs)) (text c)) ≡ refusedLine (numberOf r) p
+      of (Accepted c) text z = list (listVerdict (c .inputs) (wordsOf bs)) c (text c) z
       of (Refused r′ p′) text z = let f : r′ ≡ r = cc in let g : p′ ≡ p = cc in rw (f, g)
 
-  pub graded-done : {c : Counts} → opened (checked ws) (λ c. listVerdict (c .inputs) xs) ≡ Accepted c
-      → gradedText ws xs ≡ gradingText c (mark ws c xs) (tally ws c xs) (marked ws c xs) (total ws c)
+  pub graded-done : {c : Counts} → openedList (whole ws) (lentList [] bs) ≡ Accepted c → gradedText ws (wordsOf bs)
+      ≡ gradingText c (mark ws c (listWords [] bs)) (tally ws c (listWords [] bs)) (marked ws c (listWords [] bs)) (total ws c)
   unfolding gradedText
-  graded-done e = let (a, s) = opened-accepted (checked ws) (λ c. listVerdict (c .inputs) xs) e in rw (a, s)
+  graded-done e =
+      let (a, s) = opened-accepted (checked ws) (λ c. listVerdict (c .inputs) (wordsOf bs)) (sym opened-words ∙ e) in
+      rw (a, s, bytes-alone bs)
 
 -- marks and tallies that agree make one text
 lines-same : (m m′ t t′ : ℕ → ℕ) (n : ℕ) → ((f : ℕ) → f < n → m f ≡ m′ f)
@@ -152,16 +163,12 @@ unfolding faultLines
 lines-next m t f = rw add-one
 
 -- the text of a grading, from what it leaves in the buffers
-pub few-faults : {ws xs : List ℕ} {c : Counts} → Listed ws c xs → c .faults ≤ 10240
-few-faults y = let s = y .shape in omega (arith, s .all-faults, s .few-nodes, s .few-graphs)
-
-pub grading-told : (ws xs : List ℕ) (c : Counts) (b d : List ℕ) {ms ts : List ℕ} (n k : ℕ) → ms ≡ over (c .faults) (mark ws c xs) b → ts ≡ over (c .faults) (tally ws c xs) d
-    → n ≡ marked ws c xs → k ≡ total ws c
+pub grading-told : {ws xs : List ℕ} {c : Counts} {b d ms ts : List ℕ} {n k : ℕ} → GradedList ws c xs n b d ms ts → k ≡ total ws c
     → gradingText c (λ f. getD ms f 0) (λ f. getD ts f 0) n k ≡ gradingText c (mark ws c xs) (tally ws c xs) (marked ws c xs) (total ws c)
-grading-told ws xs c b d {ms} {ts} n k m t e z =
-    rw (e, z) (grading-same c (λ f. getD ms f 0) (mark ws c xs) (λ f. getD ts f 0) (tally ws c xs) _ _
-    (λ f l. rw m (over-at (mark ws c xs) b (c .faults) f l))
-    (λ f l. rw t (over-at (tally ws c xs) d (c .faults) f l)))
+grading-told {ws} {xs} {c} {b} {d} {ms} {ts} g z =
+    rw (g .number, z) (grading-same c (λ f. getD ms f 0) (mark ws c xs) (λ f. getD ts f 0) (tally ws c xs) _ _
+    (λ f l. rw (g .marks-put) (over-at (mark ws c xs) b (c .faults) f l))
+    (λ f l. rw (g .tallies-put) (over-at (tally ws c xs) d (c .faults) f l)))
 
 -- the words of some bytes, as a buffer's front
 pub words-front : (b d out : List ℕ) (n : ℕ) → n ≡ length b / 4 → out ≡ over (length b / 4) (wordAt b) d → take n out ≡ wordsOf b

@@ -7,6 +7,7 @@ use lib.ListN.{length, take, drop}
 use lib.Dec.{ltb, eqb}
 use Rattle.lists.specs.Counting.{choose}
 use Rattle.word32.specs.Bytes.{wordAt, wordsOf}
+use Rattle.answers.specs.Limits.{maxWords}
 use Rattle.answers.specs.declared.Counts.{Counts}
 use Rattle.answers.specs.declared.Verdict.{Verdict}
 use Rattle.answers.specs.declared.Verdict.the-variants.{Sound, Broken}
@@ -49,7 +50,7 @@ vectorBytes b = drop (4 + 4 * wordCount b) b
 unfoldable pub textOf : List ℕ → List ℕ
 textOf b =
     either (ltb (length b) 4) shortLine
-    (either (ltb 9216 (wordCount b)) (refusedLine 1 0)
+    (either (ltb maxWords (wordCount b)) (refusedLine 1 0)
     (either (ltb (length b) (4 + 4 * wordCount b)) shortLine
     (either (ltb 16384 (length (vectorBytes b) / 4)) longLine
     (either (not (eqb (length (vectorBytes b) % 4) 0)) shortLine
@@ -58,4 +59,4 @@ textOf b =
 -- HOW MANY BYTES DECIDE, given the first four: no more after a count that is missing or over 9,216, else the card and one vector word too many.
 -- The law `text-front` says that the text of these bytes is the text of all.
 unfoldable pub bytesWanted : List ℕ → ℕ
-bytesWanted b = choose (ltb (length b) 4 || ltb 9216 (wordCount b)) 4 (4 + 4 * wordCount b + 65540)
+bytesWanted b = choose (ltb (length b) 4 || ltb maxWords (wordCount b)) 4 (4 + 4 * wordCount b + 65540)

@@ -1,18 +1,21 @@
 // What cardgrade prints for the bytes that it reads, put into a buffer. specs/Report.antt says what that is.
 ghost use mathlib.Core.Path.{_≡_};
 ghost use mathlib.Core.List.{_∷_, []};
-ghost use Prim.Native.Nat.{_+_, _*_, _-_, _/_, _<_, _≤_};
+ghost use Prim.Native.Nat.{_+_, _*_, _-_, _/_, _%_, _<_, _≤_};
 ghost use lib.ListN.{length, getD};
+ghost use Rattle.answers.specs.Limits.{maxWords, maxFaults};
 ghost use Rattle.lists.specs.Tables.{front};
 ghost use Rattle.word32.specs.Bytes.{wordsOf};
 ghost use Rattle.cardtables.specs.Stems.{total};
+ghost use Rattle.testvectors.specs.Lists.{listWords};
 ghost use Rattle.detect.specs.Grading.{mark, tally, marked};
-ghost use Rattle.grade.specs.Graded.{Listed};
+ghost use Rattle.grade.specs.Graded.{CardWithList};
 ghost use Rattle.report.specs.Text.{decimal, field, markField, countFields, cardLine, faultLine, faultLines, line, gradingText, refusedLine};
 ghost use Rattle.report.specs.Report.{wordCount, gradedText, textOf, bytesWanted};
 ghost use Rattle.report.specs.Puts.{Puts};
 use answers::Answer;
 use answers::Counts;
+use answers::MAX_WORDS;
 
 // Bytes go to a position of the buffer; the result is the position after them.
 fn put(out: &mut [u8], at: usize, bytes: &[u8]) -> usize
@@ -80,7 +83,7 @@ fn put_mark(out: &mut [u8], at: usize, mark: u32) -> usize
 
 // The line of one fault, in 28 bytes at most.
 fn put_fault(out: &mut [u8], at: usize, f: usize, mark: u32, tally: u32) -> usize
-    requires { ⌜ (at + 28 ≤ length (now out)) × (f < 10240) ⌝ }
+    requires { ⌜ (at + 28 ≤ length (now out)) × (f < maxFaults) ⌝ }
     ensures { λ r. ⌜ Puts (now (out .entry)) at (faultLine f mark tally) r (now (out .exit)) × (r ≤ at + 28) ⌝ }
 {
     let after_number = put_decimal(out, at, f);
@@ -91,7 +94,7 @@ fn put_fault(out: &mut [u8], at: usize, f: usize, mark: u32, tally: u32) -> usiz
 
 // The lines of the first n faults.
 fn put_faults(out: &mut [u8], at: usize, n: usize, marks: &[u32], tallies: &[u32]) -> usize
-    requires { ⌜ (at + 28 * n ≤ length (now out)) × (n ≤ 10240) × (n ≤ length (now marks)) × (n ≤ length (now tallies)) ⌝ }
+    requires { ⌜ (at + 28 * n ≤ length (now out)) × (n ≤ maxFaults) × (n ≤ length (now marks)) × (n ≤ length (now tallies)) ⌝ }
     ensures { λ r. ⌜ Puts (now (out .entry)) at (faultLines (λ f. getD (now (marks .entry)) f 0) (λ f. getD (now (tallies .entry)) f 0) n) r (now (out .exit))
         × (r ≤ at + 28 * n) ⌝ }
 {
@@ -153,7 +156,7 @@ fn put_grading(
     marked: usize,
     total: usize,
 ) -> usize
-    requires { ⌜ (286880 ≤ length (now out)) × (c .faults ≤ 10240) × (c .faults ≤ length (now marks)) × (c .faults ≤ length (now tallies)) ⌝ }
+    requires { ⌜ (286880 ≤ length (now out)) × (c .faults ≤ maxFaults) × (c .faults ≤ length (now marks)) × (c .faults ≤ length (now tallies)) ⌝ }
     ensures { λ r. ⌜ Puts (now (out .entry)) 0 (gradingText c (λ f. getD (now (marks .entry)) f 0) (λ f. getD (now (tallies .entry)) f 0) marked total) r (now (out .exit)) ⌝ }
 {
     let after_card = put_card(out, c);
@@ -162,47 +165,40 @@ fn put_grading(
 }
 
 // The text for an accepted card and a list of vectors.
-fn report_accepted(card: &[u32], c: Counts, vectors: &[u32], out: &mut [u8]) -> usize
-    requires { ⌜ Listed (now card) c (now vectors) × (286880 ≤ length (now out)) ⌝ }
-    ensures { λ r. ⌜ Puts (now (out .entry)) 0 (gradingText c (mark (now (card .entry)) c (now (vectors .entry))) (tally (now (card .entry)) c (now (vectors .entry)))
-        (marked (now (card .entry)) c (now (vectors .entry))) (total (now (card .entry)) c)) r (now (out .exit)) ⌝ }
+fn report_accepted(card: &[u32], c: Counts, words: &[u32], bytes: &[u8], out: &mut [u8]) -> usize
+    requires { ⌜ CardWithList (now card) c (listWords (now words) (now bytes)) × (286880 ≤ length (now out)) ⌝ }
+    ensures { λ r. ⌜ Puts (now (out .entry)) 0 (gradingText c (mark (now (card .entry)) c (listWords (now (words .entry)) (now (bytes .entry))))
+        (tally (now (card .entry)) c (listWords (now (words .entry)) (now (bytes .entry)))) (marked (now (card .entry)) c (listWords (now (words .entry)) (now (bytes .entry))))
+        (total (now (card .entry)) c)) r (now (out .exit)) ⌝ }
 {
     let mut marks = layout::fault_table();
     let mut tallies = layout::fault_table();
     let tables = cardtables::make_tables(card, c);
-    let marked = grade::grade_list(card, c, &tables, vectors, &mut marks, &mut tallies);
+    let marked = grade::grade_list(card, c, &tables, words, bytes, &mut marks, &mut tallies);
     let total = cardtables::total(c, &tables);
     put_grading(out, c, &marks, &tallies, marked, total)
 }
 
-// The text for a card and vector words.
-fn report_words(card: &[u32], vectors: &[u32], out: &mut [u8]) -> usize
-    requires { ⌜ 286880 ≤ length (now out) ⌝ }
-    ensures { λ r. ⌜ Puts (now (out .entry)) 0 (gradedText (now (card .entry)) (now (vectors .entry))) r (now (out .exit)) ⌝ }
+// The text for a card and the bytes of vector words.
+fn report_words(card: &[u32], vectors: &[u8], out: &mut [u8]) -> usize
+    requires { ⌜ (length (now vectors) % 4 ≡ 0) × (286880 ≤ length (now out)) ⌝ }
+    ensures { λ r. ⌜ Puts (now (out .entry)) 0 (gradedText (now (card .entry)) (wordsOf (now (vectors .entry)))) r (now (out .exit)) ⌝ }
 {
-    match opening::open_list(card, vectors) {
+    let none = &card[..0];
+    match opening::open_list(card, 0, none, vectors) {
         Answer::Refused(rule, position) => put_refused(out, answers::rule_number(rule), position),
-        Answer::Accepted(c) => report_accepted(card, c, vectors, out),
+        Answer::Accepted(c) => report_accepted(card, c, none, vectors, out),
     }
-}
-
-// Room for as many vector words as are taken.
-fn vector_room() -> [u32; 16384]
-    ensures { λ r. ⌜ 16384 ≡ length r ⌝ }
-{
-    [0u32; 16384]
 }
 
 // The text for the bytes of a card and of vector words.
 fn report_parts(card: &[u8], vectors: &[u8], out: &mut [u8]) -> usize
-    requires { ⌜ (length (now card) / 4 ≤ 9216) × (length (now vectors) / 4 ≤ 16384) × (286880 ≤ length (now out)) ⌝ }
+    requires { ⌜ (length (now card) / 4 ≤ maxWords) × (length (now vectors) % 4 ≡ 0) × (286880 ≤ length (now out)) ⌝ }
     ensures { λ r. ⌜ Puts (now (out .entry)) 0 (gradedText (wordsOf (now (card .entry))) (wordsOf (now (vectors .entry)))) r (now (out .exit)) ⌝ }
 {
     let mut card_words = layout::card_table();
     let n = word32::words_of(card, &mut card_words);
-    let mut vector_words = vector_room();
-    let v = word32::words_of(vectors, &mut vector_words);
-    report_words(&card_words[..n], &vector_words[..v], out)
+    report_words(&card_words[..n], vectors, out)
 }
 
 // The text for all the bytes read, given their word count.
@@ -210,7 +206,7 @@ fn report_counted(input: &[u8], n: usize, out: &mut [u8]) -> usize
     requires { ⌜ (4 ≤ length (now input)) × (n ≡ wordCount (now input)) × (286880 ≤ length (now out)) ⌝ }
     ensures { λ r. ⌜ Puts (now (out .entry)) 0 (textOf (now (input .entry))) r (now (out .exit)) ⌝ }
 {
-    if 9216 < n {
+    if MAX_WORDS < n {
         return put_refused(out, 1, 0);
     }
     let start = 4 + 4 * n;
@@ -247,7 +243,7 @@ pub fn wanted(input: &[u8]) -> usize
         return 4;
     }
     let n = word32::word_at(input, 0) as usize;
-    if 9216 < n {
+    if MAX_WORDS < n {
         return 4;
     }
     4 + 4 * n + 65540

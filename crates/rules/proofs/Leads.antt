@@ -5,10 +5,9 @@ use mathlib.Core.Path.{_≡_, sym, ap, _∙_}
 use mathlib.Core.List.{List}
 use mathlib.Core.Bool.{true, false}
 use native.Mathlib.Omega.{arith}
-use lib.Dec.{ltb, eqb}
+use lib.Dec.{eqb}
 use borrow.Author.Tests.{eq-eqb, eqb-true}
-use Rattle.lists.specs.Counting.{choose}
-use Rattle.lists.proofs.Counting.{count-alone, count-reached, count-same, least-same}
+use Rattle.lists.proofs.Counting.{count-alone, count-reached}
 use Rattle.answers.specs.declared.Counts.{Counts}
 use Rattle.layout.specs.Layout.{first, standsIn, decides}
 use Rattle.layout.specs.Shape.{Shape}
@@ -19,6 +18,7 @@ use Rattle.cardtables.proofs.Stems.{stemless, one-read}
 use Rattle.testvectors.specs.Vectors.{vectors, vector}
 use Rattle.detect.specs.Detects.{detects}
 use Rattle.detect.specs.Grading.{detectedBy, tally, mark}
+use Rattle.detect.proofs.Relation.{tallyOf-same, markOf-same}
 use Rattle.rules.specs.Leads.{invertsAt, pairedExit}
 use Rattle.rules.proofs.Readers.{paired}
 
@@ -77,10 +77,8 @@ module _ {ws : List ℕ} {c : Counts} (a : Shape ws c) {g j : ℕ} (s : hasStem 
 
   pub lead-tally : (xs : List ℕ) → tally ws c xs ofGraph ≡ tally ws c xs ofNode
   unfolding tally detectedBy
-  lead-tally xs = count-same _ _ (vectors (c .inputs) xs) (λ t i. lead-caught (vector (c .inputs) xs t))
+  lead-tally xs = tallyOf-same (detectedBy ws c xs) (detectedBy ws c xs) (vectors (c .inputs) xs) _ _ (λ t i. lead-caught (vector (c .inputs) xs t))
 
   pub lead-mark : (xs : List ℕ) → mark ws c xs ofGraph ≡ mark ws c xs ofNode
   unfolding mark detectedBy
-  lead-mark xs =
-      ap (λ (i : ℕ). choose (ltb i (vectors (c .inputs) xs)) (0xE0000000 + i) 0xC0000000)
-      (least-same _ _ (vectors (c .inputs) xs) (λ t i. lead-caught (vector (c .inputs) xs t)))
+  lead-mark xs = markOf-same (detectedBy ws c xs) (detectedBy ws c xs) (vectors (c .inputs) xs) _ _ (λ t i. lead-caught (vector (c .inputs) xs t))

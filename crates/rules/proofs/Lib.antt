@@ -2,7 +2,7 @@
 pub mod Meets
 pub mod Changes
 pub mod Faults
-pub mod Told
+pub mod ByRules
 pub mod Stopped
 pub mod Readers
 pub mod Leads

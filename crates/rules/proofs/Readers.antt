@@ -14,7 +14,7 @@ use Rattle.answers.specs.declared.Counts.{Counts}
 use Rattle.layout.specs.Layout.{first, isInput, observable, size, reads, exits, decides, decision}
 use Rattle.layout.specs.Shape.{Shape}
 use Rattle.cardtables.specs.Readers.{OneReader}
-use Rattle.layout.proofs.Firsts.{one-place, node-below, decides-other}
+use Rattle.layout.proofs.Firsts.{one-node, node-below, decides-other}
 use Rattle.testvectors.specs.Vectors.{bit}
 use Rattle.value.specs.Settings.{Setting, good, faulty}
 use Rattle.value.specs.Values.{taken, graph}
@@ -57,7 +57,7 @@ module _ {ws : List ℕ} {c : Counts} (a : Shape ws c) (x : List ℕ) {g h k : �
           ∙ d ∙ sym (ap₂ (λ (r i : ℕ). decides ws r i (f % 2)) (q .0) (q .1)) ∙ ap (decides ws r i) (sym (ap w p ∙ w-here))
       | no n ↦
           stuck-off f′ (first ws r + i) _ (λ z.
-          let q = one-place ws h r k i (o .node) m (sym e′ ∙ z) in
+          let q = one-node ws h r k i (o .node) m (sym e′ ∙ z) in
           n (ap₂ (reads ws) (q .0) (q .1) ∙ o .read))
           ∙ ap (decides ws r i) (sym (w-off (reads ws r i) n))
     ])

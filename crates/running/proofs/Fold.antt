@@ -15,7 +15,7 @@ use Rattle.lists.specs.Counting.{choose, count}
 use Rattle.lists.proofs.Counting.{count-same, count-le}
 use Rattle.lists.proofs.Tests.{and-false, and-true, choose-bit}
 use Rattle.running.specs.declared.Running.{Running}
-use Rattle.running.specs.Running.{nextMark, nextTally, putIf, inGradeBy, found, Put, Folded, Small, Counted}
+use Rattle.running.specs.Running.{nextMark, nextTally, putIf, inGradeBy, found, Put, Folded, TalliesUpTo, Counted}
 
 -- a store, if there is one
 module _ (xs : List ℕ) (f w : ℕ) where
@@ -27,7 +27,7 @@ module _ (xs : List ℕ) (f w : ℕ) where
   put-here true l = getD-set-same xs f w 0 l
   put-here false l = refl
 
--- one place: no fault is caught there
+-- one site: no fault is caught there
 pub put-none : {t p d m : ℕ} {b : Bool} {xs us : List ℕ} → 2 ≤ d → Put t p d b xs us m xs us m
 put-none {t} {p} {d} h = let e = le-ltb d 2 h in record { number = rw (e, and-false, add-zero); marks = rw e; tallies = rw e }
 
@@ -73,7 +73,7 @@ found-put k us n p d m b j h l e = elim (decLt d 2) [
 ]
 
 module _ {t : ℕ} where
-  -- where the words ks of the places tell which count
+  -- where the words ks of the sites tell which count
   pub found-more : (ks : List ℕ) {xs us ys vs : List ℕ} {n p d m r : ℕ} → Put t p d (eqb (getD ks p 0) 1) xs us m ys vs r → p < n → 2 * n ≤ length us
       → m ≡ found (inGradeBy ks) us (2 * n) → r ≡ found (inGradeBy ks) vs (2 * n)
   found-more ks {xs} {us} {ys} {vs} {n} {p} {d} {m} {r} s h l e =
@@ -128,9 +128,9 @@ module _ {t : ℕ} where
           (o .0 ∙ q .0, o .1 ∙ q .1);
     }
 
-  -- the next place's tallies are still what they were
-  pub small-rest : {n p : ℕ} {cs xs us ys vs : List ℕ} → Small t 0 n us → Folded t p cs xs us ys vs → 2 * p + 2 ≤ n → Small t (2 * p) (2 * p + 2) vs
-  small-rest s w h = record { word = λ f b l. rw (w .rest f b .1) (s .word f (omega arith) (omega arith)) }
+  -- the next site's tallies are still what they were
+  pub tallies-rest : {n p : ℕ} {cs xs us ys vs : List ℕ} → TalliesUpTo t 0 n us → Folded t p cs xs us ys vs → 2 * p + 2 ≤ n → TalliesUpTo t (2 * p) (2 * p + 2) vs
+  tallies-rest s w h = record { word = λ f b l. rw (w .rest f b .1) (s .word f (omega arith) (omega arith)) }
 
 -- the faults that a result counts are no more than the faults
 pub found-few : (k : ℕ → Bool) (us : List ℕ) (n : ℕ) → found k us n ≤ n
@@ -144,7 +144,7 @@ counted-as {j} {k} {n} {xs} {us} {r} h s = record {
   marks-long = s .marks-long;
   tallies-long = s .tallies-long;
   number = s .number ∙ count-same _ _ n (λ f l. ap (λ (b : Bool). b && ltb 0 (getD us f 0)) (h f l));
-  small = s .small;
+  tallies-low = s .tallies-low;
 }
 
 -- one vector taken in: the next result counts the tallies after it
@@ -154,10 +154,10 @@ counted-next {k} {n} {m} {r} {cs} {xs} {us} {ys} {vs} s w l g e = record {
   marks-long = omega (arith, s .marks-long);
   tallies-long = omega (arith, s .tallies-long);
   number = e;
-  small = record {
+  tallies-low = record {
     word = λ f o h.
         let q : 2 * (f / 2) + f % 2 ≡ f = omega arith in
         rw (rw q at (w .tally (f / 2) (f % 2) (omega arith) (omega arith)))
-        (omega (arith, s .small .word f o h, choose-bit (eqb (getD cs (f / 2) 0) (f % 2)) 1 0 (omega arith) (omega arith)));
+        (omega (arith, s .tallies-low .word f o h, choose-bit (eqb (getD cs (f / 2) 0) (f % 2)) 1 0 (omega arith) (omega arith)));
   };
 }

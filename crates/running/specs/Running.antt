@@ -20,36 +20,36 @@ abbrev pub putIf : Bool → List ℕ → ℕ → ℕ → List ℕ
 putIf true xs f w = set xs f w
 putIf false xs f w = xs
 
--- which faults count in the grade, by the words ks of the places: the two of each place whose word is 1
+-- which faults count in the grade, by the words ks of the sites: the two of each site whose word is 1
 abbrev pub inGradeBy : List ℕ → ℕ → Bool
 inGradeBy ks f = eqb (getD ks (f / 2) 0) 1
 
 -- how many of the first n faults count, by k, and have a tally over 0
 unfoldable pub found : (ℕ → Bool) → List ℕ → ℕ → ℕ
 unfolding count
-found k us n = count (λ f. k f && ltb 0 (getD us f 0)) n
+found k ts n = count (λ f. k f && ltb 0 (getD ts f 0)) n
 
--- place p taken in, where its word is d and b tells whether its faults count: marks xs become ys, tallies us become vs, and r is the marked count, where
+-- site p taken in, where its word is d and b tells whether its faults count: marks ms become ms′, tallies ts become ts′, and r is the marked count, where
 -- it was m
-pub record Put (t p d : ℕ) (b : Bool) (xs us : List ℕ) (m : ℕ) (ys vs : List ℕ) (r : ℕ) : Type 0 where
-  pub number : r ≡ m + choose (b && (ltb d 2 && eqb (getD us (2 * p + d) 0) 0)) 1 0
-  pub marks : ys ≡ putIf (ltb d 2 && eqb (getD us (2 * p + d) 0) 0) xs (2 * p + d) (0xE0000000 + t)
-  pub tallies : vs ≡ putIf (ltb d 2) us (2 * p + d) (getD us (2 * p + d) 0 + 1)
+pub record Put (t p d : ℕ) (b : Bool) (ms ts : List ℕ) (m : ℕ) (ms′ ts′ : List ℕ) (r : ℕ) : Type 0 where
+  pub number : r ≡ m + choose (b && (ltb d 2 && eqb (getD ts (2 * p + d) 0) 0)) 1 0
+  pub marks : ms′ ≡ putIf (ltb d 2 && eqb (getD ts (2 * p + d) 0) 0) ms (2 * p + d) (0xE0000000 + t)
+  pub tallies : ts′ ≡ putIf (ltb d 2) ts (2 * p + d) (getD ts (2 * p + d) 0 + 1)
 
--- the marks and tallies of the first n places' faults after vector t, from the words cs of the places; the others as they were
-pub record Folded (t n : ℕ) (cs xs us ys vs : List ℕ) : Type 0 where
-  pub mark : (p d : ℕ) → p < n → d < 2 → getD ys (2 * p + d) 0 ≡ nextMark t (eqb (getD cs p 0) d) (getD us (2 * p + d) 0) (getD xs (2 * p + d) 0)
-  pub tally : (p d : ℕ) → p < n → d < 2 → getD vs (2 * p + d) 0 ≡ nextTally (eqb (getD cs p 0) d) (getD us (2 * p + d) 0)
-  pub rest : (f : ℕ) → 2 * n ≤ f → (getD ys f 0 ≡ getD xs f 0) × (getD vs f 0 ≡ getD us f 0)
+-- the marks and tallies of the first n sites' faults after vector t, from the words cs of the sites; the others as they were
+pub record Folded (t n : ℕ) (cs ms ts ms′ ts′ : List ℕ) : Type 0 where
+  pub mark : (p d : ℕ) → p < n → d < 2 → getD ms′ (2 * p + d) 0 ≡ nextMark t (eqb (getD cs p 0) d) (getD ts (2 * p + d) 0) (getD ms (2 * p + d) 0)
+  pub tally : (p d : ℕ) → p < n → d < 2 → getD ts′ (2 * p + d) 0 ≡ nextTally (eqb (getD cs p 0) d) (getD ts (2 * p + d) 0)
+  pub rest : (f : ℕ) → 2 * n ≤ f → (getD ms′ f 0 ≡ getD ms f 0) × (getD ts′ f 0 ≡ getD ts f 0)
 
 -- no tally from `low` up to `high` is over t
-pub record Small (t low high : ℕ) (us : List ℕ) : Type 0 where
-  pub word : (f : ℕ) → low ≤ f → f < high → getD us f 0 ≤ t
+pub record TalliesUpTo (t low high : ℕ) (ts : List ℕ) : Type 0 where
+  pub word : (f : ℕ) → low ≤ f → f < high → getD ts f 0 ≤ t
 
 -- the running result counts the first n faults of two buffers: how many of those that count, by k, have a tally; and no tally is over the number of
 -- vectors taken in
-pub record Counted (k : ℕ → Bool) (n : ℕ) (xs us : List ℕ) (r : Running) : Type 0 where
-  pub marks-long : n ≤ length xs
-  pub tallies-long : n ≤ length us
-  pub number : r .marked ≡ found k us n
-  pub small : Small (r .vector) 0 n us
+pub record Counted (k : ℕ → Bool) (n : ℕ) (ms ts : List ℕ) (r : Running) : Type 0 where
+  pub marks-long : n ≤ length ms
+  pub tallies-long : n ≤ length ts
+  pub number : r .marked ≡ found k ts n
+  pub tallies-low : TalliesUpTo (r .vector) 0 n ts

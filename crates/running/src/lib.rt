@@ -1,14 +1,15 @@
 // The running result of a grading: it takes in what one vector catches at a time. No card is in it: the marks and the tallies of the faults lie in two
-// lent buffers, two words of each for each place, and a word for each place tells whether its two faults count in the grade.
+// lent buffers, two words of each for each site, and a word for each site tells whether its two faults count in the grade.
 ghost use mathlib.Core.Path.{_≡_};
 ghost use Prim.Native.Nat.{_+_, _*_, _≤_, _<_};
 ghost use lib.ListN.{length, getD};
 ghost use lib.Dec.{eqb};
-ghost use Rattle.running.specs.Running.{Put, inGradeBy, found, Folded, Small, Counted};
+ghost use Rattle.answers.specs.Limits.{maxSites, maxVectors};
+ghost use Rattle.running.specs.Running.{Put, inGradeBy, found, Folded, TalliesUpTo, Counted};
 
-// Place p, where the fault stuck at d is caught, or none if d is 2: its tally, its mark at the first catch, and the marked count, in which the fault
-// counts if the place's word in `graded` is 1. The word is looked at no earlier.
-fn take_place(
+// Site p, where the fault stuck at d is caught, or none if d is 2: its tally, its mark at the first catch, and the marked count, in which the fault
+// counts if the site's word in `graded` is 1. The word is looked at no earlier.
+fn take_site(
     t: u32,
     p: usize,
     d: u32,
@@ -17,8 +18,8 @@ fn take_place(
     marks: &mut [u32],
     tallies: &mut [u32],
 ) -> usize
-    requires { ⌜ (t < 65535) × (marked < 65536) × (p < 5120) × (p < length (now graded)) × (2 * p + 1 < length (now marks)) × (2 * p + 1 < length (now tallies))
-        × Small t (2 * p) (2 * p + 2) (now tallies) ⌝ }
+    requires { ⌜ (t < maxVectors) × (marked < 65536) × (p < maxSites) × (p < length (now graded)) × (2 * p + 1 < length (now marks)) × (2 * p + 1 < length (now tallies))
+        × TalliesUpTo t (2 * p) (2 * p + 2) (now tallies) ⌝ }
     ensures { λ r. ⌜ Put t p d (eqb (getD (now (graded .entry)) p 0) 1) (now (marks .entry)) (now (tallies .entry)) marked (now (marks .exit)) (now (tallies .exit)) r ⌝ }
 {
     if 2 <= d {
@@ -37,8 +38,8 @@ fn take_place(
     marked + 1
 }
 
-// All n places; the word of each in `graded` is 1 where its faults count.
-fn take_places(
+// All n sites; the word of each in `graded` is 1 where its faults count.
+fn take_sites(
     t: u32,
     n: usize,
     caught: &[u32],
@@ -47,15 +48,15 @@ fn take_places(
     marks: &mut [u32],
     tallies: &mut [u32],
 ) -> usize
-    requires { ⌜ (t < 65535) × (n ≤ 5120) × (n ≤ length (now caught)) × (n ≤ length (now graded)) × (2 * n ≤ length (now marks))
-        × (2 * n ≤ length (now tallies)) × (marked ≡ found (inGradeBy (now graded)) (now tallies) (2 * n)) × Small t 0 (2 * n) (now tallies) ⌝ }
+    requires { ⌜ (t < maxVectors) × (n ≤ maxSites) × (n ≤ length (now caught)) × (n ≤ length (now graded)) × (2 * n ≤ length (now marks))
+        × (2 * n ≤ length (now tallies)) × (marked ≡ found (inGradeBy (now graded)) (now tallies) (2 * n)) × TalliesUpTo t 0 (2 * n) (now tallies) ⌝ }
     ensures { λ r. ⌜ (r ≡ found (inGradeBy (now (graded .entry))) (now (tallies .exit)) (2 * n))
         × Folded t n (now (caught .entry)) (now (marks .entry)) (now (tallies .entry)) (now (marks .exit)) (now (tallies .exit)) ⌝ }
 {
     let mut m = marked;
     let mut p = 0;
     while p < n {
-        m = take_place(t, p, lists::get(caught, p), graded, m, marks, tallies);
+        m = take_site(t, p, lists::get(caught, p), graded, m, marks, tallies);
         p += 1;
     }
     m
@@ -78,7 +79,7 @@ impl Running {
         }
     }
 
-    // Takes in what one vector catches at n places and hands the next result back. What it promises holds of any two buffers that the result counts.
+    // Takes in what one vector catches at n sites and hands the next result back. What it promises holds of any two buffers that the result counts.
     pub fn take_in(
         self,
         n: usize,
@@ -87,14 +88,14 @@ impl Running {
         marks: &mut [u32],
         tallies: &mut [u32],
     ) -> Running
-        requires { ⌜ (self .vector < 65535) × (n ≤ 5120) × (n ≤ length (now caught)) × (n ≤ length (now graded))
+        requires { ⌜ (self .vector < maxVectors) × (n ≤ maxSites) × (n ≤ length (now caught)) × (n ≤ length (now graded))
             × Counted (inGradeBy (now graded)) (2 * n) (now marks) (now tallies) self ⌝ }
         ensures { λ r. ⌜ (r .vector ≡ self .vector + 1)
             × Folded (self .vector) n (now (caught .entry)) (now (marks .entry)) (now (tallies .entry)) (now (marks .exit)) (now (tallies .exit))
             × Counted (inGradeBy (now (graded .entry))) (2 * n) (now (marks .exit)) (now (tallies .exit)) r ⌝ }
     {
         let t = self.vector;
-        let marked = take_places(t, n, caught, graded, self.marked, marks, tallies);
+        let marked = take_sites(t, n, caught, graded, self.marked, marks, tallies);
         Running {
             vector: t + 1,
             marked: marked,

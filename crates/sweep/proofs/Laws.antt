@@ -1,4 +1,4 @@
--- The steps of the sweep, said of the definitions: what an exit gives, and how a store at a node's or a graph's place takes the sweep on. Assumes nothing.
+-- The steps of the sweep, said of the definitions: what an exit gives, and how a store at a node's or a graph's site takes the sweep on. Assumes nothing.
 use Prim.Native.Nat.{ℕ, zero, suc, _+_, _-_, _*_, _<_, _≤_}
 use mathlib.Core.Path.{_≡_, refl, sym, ap, _∙_}
 use mathlib.Core.List.{List}
@@ -11,7 +11,7 @@ use Rattle.answers.specs.declared.Counts.{Counts}
 use Rattle.layout.specs.Layout.{first, size, reads, decision}
 use Rattle.layout.proofs.Firsts.{apart, node-below}
 use Rattle.layout.specs.Tables.{Decided, Ready}
-use Rattle.layout.proofs.Places.{walkable, some-node, first-is, decision-is}
+use Rattle.layout.proofs.NodeNumbers.{walkable, some-node, first-is, decision-is}
 use Rattle.testvectors.specs.Vectors.{bit}
 use Rattle.value.specs.Settings.{good}
 use Rattle.value.specs.Values.{follow, value, nodeValue}

@@ -8,7 +8,7 @@ use Rattle.layout.specs.Layout.{first, size}
 use Rattle.value.specs.Settings.{good}
 use Rattle.value.specs.Values.{value, nodeValue}
 
--- the good values of the places of the first n graphs: node j's at j, graph g's at N + g
+-- the good values of the sites of the first n graphs: node j's at j, graph g's at N + g
 pub record Swept (ws : List ℕ) (c : Counts) (x : List ℕ) (n : ℕ) (xs : List ℕ) : Type 0 where
   pub long : c .nodes + c .graphs ≤ length xs
   pub nodes : (g k : ℕ) → g < n → k < size ws g → getD xs (first ws g + k) 0 ≡ nodeValue ws c good x g k

@@ -23,7 +23,7 @@ pub fn exit_value(values: &[u32], first: usize, e: usize) -> u32
     lists::get(values, first + (e - 2))
 }
 
-// The value of local node k of graph g, whose first node is `from`, goes to its place, where those of the later nodes are. No bit of a vector is read: it
+// The value of local node k of graph g, whose first node is `from`, goes to its site, where those of the later nodes are. No bit of a vector is read: it
 // promises so for each.
 fn sweep_node(card: &[u32], c: Counts, from: usize, g: usize, k: usize, values: &mut [u32])
     requires { ⌜ Shape (now card) c × (from ≡ first (now card) g) × (g < c .graphs) × (k < size (now card) g) × (c .nodes + c .graphs ≤ length (now values)) ⌝ }
@@ -60,16 +60,16 @@ fn sweep_graph(
     requires { ⌜ Ready (now card) c (now firsts) × Wide (c .inputs) (now vector) × (g < c .graphs) × Swept (now card) c (now vector) g (now values) ⌝ }
     ensures { λ _. ⌜ Swept (now (card .entry)) c (now (vector .entry)) (g + 1) (now (values .exit)) ⌝ }
 {
-    let place = c.nodes + g;
+    let site = c.nodes + g;
     if g < c.inputs {
-        lists::put(values, place, testvectors::bit(vector, g));
+        lists::put(values, site, testvectors::bit(vector, g));
         return;
     }
     let first = layout::first_node(firsts, g);
     let n = layout::graph_size(firsts, g);
     sweep_nodes(card, c, first, g, n, values);
     let v = lists::get(values, first);
-    lists::put(values, place, v);
+    lists::put(values, site, v);
 }
 
 // All graphs.

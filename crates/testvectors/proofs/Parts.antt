@@ -6,12 +6,13 @@ use native.Mathlib.Nat.{add-mul, mul-le-mul-right, mul-div-cancel}
 use native.Mathlib.Omega.{arith}
 use lib.ListN.{length, getD, take, drop, length-drop}
 use lib.Seq.{length-take-le, getD-take, getD-drop, ext-getD}
+use Rattle.answers.specs.Limits.{maxGraphs, maxWidth}
 use Rattle.testvectors.specs.Vectors.{width, vectors, vector}
 use Rattle.testvectors.specs.Parts.{Part}
 use Rattle.testvectors.proofs.Laws.{width-some, vector-width}
 
 -- a vector for at most 1,024 inputs has at most 64 words
-pub width-few : (m : ℕ) → m ≤ 1024 → width m ≤ 64
+pub width-few : (m : ℕ) → m ≤ maxGraphs → width m ≤ maxWidth
 unfolding width
 width-few m h = omega arith
 

@@ -1,4 +1,4 @@
 pub mod Vectors
 pub mod Parts
+pub mod Lists
 pub mod Made
-pub mod Lent

@@ -6,7 +6,9 @@ use mathlib.Core.Bool.{not}
 use lib.ListN.{length, getD, take, drop}
 use lib.Dec.{ltb, eqb}
 use Rattle.word32.specs.Fields.{kind, inputSpare}
+use Rattle.answers.specs.Limits.{maxVectors}
 use Rattle.answers.specs.Tests.{Test, test, firstBroken, andThen}
+use Rattle.answers.specs.Calls.{Lent}
 use Rattle.answers.specs.declared.Rule.the-variants.{VectorForm}
 use Rattle.answers.specs.declared.Verdict.{Verdict}
 use Rattle.answers.specs.declared.Verdict.the-variants.{Sound}
@@ -36,7 +38,7 @@ wordVerdict m j p w =
 abbrev pub listTests : ℕ → ℕ → List Test
 listTests m n =
     test (not (eqb (n % width m) 0)) VectorForm 0
-    ∷ test (ltb 65535 (n / width m)) VectorForm 0
+    ∷ test (ltb maxVectors (n / width m)) VectorForm 0
     ∷ []
 
 module _ (m : ℕ) (xs : List ℕ) where
@@ -64,3 +66,8 @@ module _ (m : ℕ) (xs : List ℕ) where
   unfoldable pub vector : ℕ → List ℕ
   unfolding width
   vector t = take (width m) (drop (t * width m) xs)
+
+-- THE FORM of vectors that are lent, for m inputs: bytes left over are a wrong number of words, rule 10 at 0; then the verdict on their words, as one
+-- vector or as a list
+unfoldable pub lentForm : (ℕ → List ℕ → Verdict) → ℕ → Lent → Verdict
+lentForm verdict m v = andThen (firstBroken (test (ltb 0 (v .extra)) VectorForm 0 ∷ [])) (verdict m (v .words))

@@ -1,4 +1,4 @@
--- The exit that a node takes, as a table of first nodes gives its place, and where its walk goes on. Assumes nothing.
+-- The exit that a node takes, as a table of first nodes gives its number, and where its walk goes on. Assumes nothing.
 use Prim.Native.Nat.{ℕ, _+_, _-_, _*_, _<_, _≤_}
 use mathlib.Core.Path.{_≡_, sym, ap, _∙_}
 use mathlib.Core.List.{List}
@@ -7,7 +7,7 @@ use Rattle.word32.specs.Fields.{exitOf}
 use Rattle.answers.specs.declared.Counts.{Counts}
 use Rattle.layout.specs.Layout.{first, size, exits, decision}
 use Rattle.layout.specs.Tables.{Ready, Walkable}
-use Rattle.layout.proofs.Places.{place-is, exit-is, walkable}
+use Rattle.layout.proofs.NodeNumbers.{node-number, exit-is, walkable}
 use Rattle.value.specs.Settings.{Setting}
 use Rattle.value.specs.Values.{taken, value, nodeValue}
 use Rattle.value.proofs.Values.{node-constant, node-onward}
@@ -16,7 +16,7 @@ use Rattle.value.proofs.Values.{node-constant, node-onward}
 module _ {ws firsts : List ℕ} {g k f : ℕ} (y : Walkable ws firsts g) (l : k < size ws g) (e : f ≡ getD firsts g 0) (s : Setting) (v : ℕ → ℕ) where
   pub taken-is : {d a : ℕ} → d ≡ decision ws v g k → a ≡ exitOf (getD ws (g + 2 + 2 * (f + k)) 0) (s (f + k) d) → taken ws s v g k ≡ a
   taken-is {d} q u =
-      sym (exit-is y l e (s (f + k) d) u ∙ ap (λ (n : ℕ). exits ws g k (s n d)) (place-is y l e)
+      sym (exit-is y l e (s (f + k) d) u ∙ ap (λ (n : ℕ). exits ws g k (s n d)) (node-number y l e)
       ∙ ap (λ (n : ℕ). exits ws g k (s (first ws g + k) n)) q)
 
 -- where that exit is a constant, and where it is a later node

@@ -1,4 +1,4 @@
--- Settings: that no fault and faults give bits, and what faults make of a place. No card in it. Assumes nothing.
+-- Settings: that no fault and faults give bits, and what faults make of a site. No card in it. Assumes nothing.
 use Prim.Native.Nat.{ℕ, suc, _+_, _/_, _%_, _<_, _≤_}
 use mathlib.Core.Path.{_≡_, refl, ap, _∙_}
 use mathlib.Core.List.{List, [], _∷_, _++_}
@@ -22,7 +22,7 @@ unfolding faulty
 faulty-keeps [] p v h = h
 faulty-keeps (f ∷ fs) p v h = choose-bit (eqb (f / 2) p) (f % 2) (faulty fs p v) (omega arith) (faulty-keeps fs p v h)
 
--- no fault, one fault alone, and the first of a list of faults: it holds its place, and leaves the others to the rest
+-- no fault, one fault alone, and the first of a list of faults: it holds its site, and leaves the others to the rest
 pub faulty-none : faulty [] ≡ good
 unfolding faulty
 faulty-none = refl
@@ -39,7 +39,7 @@ pub faulty-off : (f : ℕ) (fs : List ℕ) (p v : ℕ) → (f / 2 ≡ p → ⊥)
 unfolding faulty
 faulty-off f fs p v n = rw (ne-eqb (f / 2) p n)
 
--- two lists of faults in one, and a list with none at a place, which it leaves alone
+-- two lists of faults in one, and a list with none at a site, which it leaves alone
 pub faulty-both : (fs gs : List ℕ) (p v : ℕ) → faulty (fs ++ gs) p v ≡ faulty fs p (faulty gs p v)
 unfolding faulty
 faulty-both [] gs p v = refl

@@ -1,4 +1,4 @@
--- The values of the graphs and nodes of a card, under a setting of its places and a vector. Assumes nothing.
+-- The values of the graphs and nodes of a card, under a setting of its sites and a vector. Assumes nothing.
 use Prim.Native.Nat.{ℕ, zero, suc, _+_, _-_, _/_, _<_, _≤_}
 use mathlib.Core.Path.{_≡_, sym, ap, _∙_}
 use mathlib.Core.List.{List, [], _∷_}
@@ -21,7 +21,7 @@ use Rattle.value.specs.Values.{follow, taken, graph, values, value, node
 use Rattle.value.proofs.Walk.{Later, walk-bit, node-law, same-graph}
 use Rattle.value.proofs.Settings.{stuck-off}
 
--- a setting that leaves the places of graph g alone, those of its nodes and its own
+-- a setting that leaves the sites of graph g alone, those of its nodes and its own
 pub record Spares (ws : List ℕ) (c : Counts) (s : Setting) (g : ℕ) : Type 0 where
   pub node : (k v : ℕ) → k < size ws g → s (first ws g + k) v ≡ v
   pub own : (v : ℕ) → s (c .nodes + g) v ≡ v
@@ -108,7 +108,7 @@ module _ {ws : List ℕ} {c : Counts} (a : Shape ws c) where
     pub value-bit : Keeps s → (g : ℕ) → g < c .graphs → value ws c s x g < 2
     value-bit keeps g h = rw (value-solves g h) (graph-bit keeps (value ws c s x) g)
 
-    -- a graph whose places are left alone gives what it gives with no fault
+    -- a graph whose sites are left alone gives what it gives with no fault
     pub graph-spared : (v : ℕ → ℕ) (g : ℕ) → g < c .graphs → Spares ws c s g → graph ws (c .nodes) s x v g ≡ graph ws (c .nodes) good x v g
     unfolding graph
     graph-spared v g h spares =
@@ -138,7 +138,7 @@ module _ {ws : List ℕ} {c : Counts} (a : Shape ws c) where
       (λ h m. value-solves s x h (omega arith) ∙ graph-spared s x (value ws c s x) h (omega arith) (spares h m))
       (λ h m. value-solves good x h (omega arith))
 
-  -- and one that leaves every place alone leaves every value
+  -- and one that leaves every site alone leaves every value
   pub neutral : (s : Setting) → ((p v : ℕ) → p < c .nodes + c .graphs → s p v ≡ v) → (x : List ℕ) → Same (c .graphs) (value ws c s x) (value ws c good x)
   neutral s alone x =
       fault-below s x (c .graphs) (omega arith) (λ h m. record {

@@ -1,11 +1,11 @@
--- Places of a card, and what faults make of them: document 01, 'Values and faults'. Assumes nothing.
+-- Sites of a card, and what faults make of them: document 01, 'Values and faults'. Assumes nothing.
 use Prim.Native.Nat.{ℕ, _/_, _%_, _<_}
 use mathlib.Core.List.{List, [], _∷_}
 use lib.Dec.{eqb}
 use Rattle.lists.specs.Counting.{choose}
 
--- Node j is place j, and graph g is place N + g. A setting says what a place has where v is worked out there: of a node its decision, of a
--- graph its value.
+-- FAULT SITES, where a fault is: node j is site j, and graph g is site N + g. A setting says what a site has where v is worked out there: of a
+-- node its decision, of a graph its value.
 abbrev pub Setting : Type 0
 Setting = ℕ → ℕ → ℕ
 
@@ -13,7 +13,7 @@ Setting = ℕ → ℕ → ℕ
 abbrev pub Keeps : Setting → Type 0
 Keeps s = (p v : ℕ) → v < 2 → s p v < 2
 
--- Fault f holds place f / 2 at f % 2: so fault 2j makes node j always take its 0-exit and 2j + 1 its 1-exit, and fault 2N + 2g holds graph g at 0
+-- Fault f holds site f / 2 at f % 2: so fault 2j makes node j always take its 0-exit and 2j + 1 its 1-exit, and fault 2N + 2g holds graph g at 0
 -- and 2N + 2g + 1 at 1.
 abbrev pub stuck : ℕ → Setting → Setting
 stuck f s p v = choose (eqb (f / 2) p) (f % 2) (s p v)

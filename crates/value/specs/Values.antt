@@ -1,4 +1,4 @@
--- The values of a card's graphs under a vector, with a setting of its places: 003, section 1, and document 01, 'Values and faults'. For an accepted card.
+-- The values of a card's graphs under a vector, with a setting of its sites: 003, section 1, and document 01, 'Values and faults'. For an accepted card.
 -- Assumes nothing.
 use Prim.Native.Nat.{ℕ, zero, suc, _+_}
 use mathlib.Core.List.{List}

@@ -1,18 +1,18 @@
-// What faults make of a place, and the exit that a node takes.
+// What faults make of a site, and the exit that a node takes.
 ghost use mathlib.Core.Path.{_≡_};
 ghost use Prim.Native.Nat.{_+_, _*_, _<_};
 ghost use lib.ListN.{length, getD};
 ghost use Rattle.word32.specs.Fields.{exitOf};
 ghost use Rattle.value.specs.Settings.{faulty};
 
-// The value that a place has where v is worked out there, with the faults of a list in.
-pub fn set_at(faults: &[u32], place: usize, v: u32) -> u32
-    ensures { λ r. ⌜ r ≡ faulty (now (faults .entry)) place v ⌝ }
+// The value that a site has where v is worked out there, with the faults of a list in.
+pub fn set_at(faults: &[u32], site: usize, v: u32) -> u32
+    ensures { λ r. ⌜ r ≡ faulty (now (faults .entry)) site v ⌝ }
 {
     let mut i = 0;
     while i < faults.len() {
         let f = faults[i] as usize;
-        if f / 2 == place {
+        if f / 2 == site {
             return (f % 2) as u32;
         }
         i += 1;

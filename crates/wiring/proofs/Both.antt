@@ -15,7 +15,7 @@ use Rattle.wiring.specs.Both.{Both}
 use Rattle.wiring.proofs.Stands.{Wired}
 use Rattle.wiring.proofs.BothWritten.{joined-input, written-a, written-b}
 use Rattle.wiring.proofs.Accepted.{joined-accepted, tests-wired}
-use Rattle.wiring.proofs.Places.{stays}
+use Rattle.wiring.proofs.Sites.{stays}
 use Rattle.wiring.proofs.Part.{Joins, written-part, joined-observable-a, joined-observable-b}
 use Rattle.wiring.proofs.Values.{joined-values}
 use Rattle.wiring.proofs.Faults.{both-inside, joined-faults}

@@ -16,7 +16,7 @@ use Rattle.detect.specs.Detects.{observed, detects}
 use Rattle.detect.proofs.Detects.{observed-none}
 use Rattle.wiring.specs.Joined.{free, joinedCounts, joined}
 use Rattle.wiring.specs.Parts.{isWired, faultA, faultB, vectorA}
-use Rattle.wiring.specs.Both.{FaultsA, FaultsB, bothFaults, graphA, givenB, graphB, Together}
+use Rattle.wiring.specs.Both.{FaultsA, FaultsB, bothFaults, graphA, givenB, graphB, ValuesOfBoth}
 use Rattle.wiring.proofs.Numbers.{output-a, output-b}
 use Rattle.wiring.proofs.Part.{PartOf, Joins}
 use Rattle.wiring.proofs.Faults.{joined-faults}
@@ -60,7 +60,7 @@ module _ {a b : List ℕ} {A B : Counts} {wires : List ℕ} (joins : Joins a b A
   unfolding observed
   observed-inputs v w = some-none (shown js v w) n (λ g l. rw (input-hidden js g (joins .input g l)))
 
-  module _ {s t u s′ t′ u′ : Setting} (one : Together a b A B wires s t u) (other : Together a b A B wires s′ t′ u′) (x : List ℕ) where
+  module _ {s t u s′ t′ u′ : Setting} (one : ValuesOfBoth a b A B wires s t u) (other : ValuesOfBoth a b A B wires s′ t′ u′) (x : List ℕ) where
     observed-both : observed js (C .graphs) (value js C s x) (value js C s′ x)
         ≡ observed a (A .graphs) (graphA a b A B wires t x) (graphA a b A B wires t′ x)
         || observed b (B .graphs) (graphB a b A B wires t u x) (graphB a b A B wires t′ u′ x)
@@ -73,15 +73,15 @@ module _ {a b : List ℕ} {A B : Counts} {wires : List ℕ} (joins : Joins a b A
         ∙ ap (λ (k : Bool). k || observed b (B .graphs) (graphB a b A B wires t u x) (graphB a b A B wires t′ u′ x)) outputs-a
 
   -- no fault at all
-  together-good : Together a b A B wires good good good
-  together-good = rw faulty-none at (joined-faults joins [] [] tt tt)
+  values-of-both-good : ValuesOfBoth a b A B wires good good good
+  values-of-both-good = rw faulty-none at (joined-faults joins [] [] tt tt)
 
   -- FAULTS OF BOTH TOGETHER, seen against none
   pub joined-shown : (fs gs : List ℕ) → FaultsA A B wires fs → FaultsB A B wires gs → (x : List ℕ)
       → observed js (C .graphs) (value js C good x) (value js C (faulty (bothFaults A B wires fs gs)) x)
       ≡ observed a (A .graphs) (graphA a b A B wires good x) (graphA a b A B wires (faulty fs) x)
       || observed b (B .graphs) (graphB a b A B wires good good x) (graphB a b A B wires (faulty fs) (faulty gs) x)
-  joined-shown fs gs of-a of-b x = observed-both together-good (joined-faults joins fs gs of-a of-b) x
+  joined-shown fs gs of-a of-b x = observed-both values-of-both-good (joined-faults joins fs gs of-a of-b) x
 
   -- ONE FAULT: of A, and of B, under which A has its good values and shows nothing
   pub joined-catches-a : (f : ℕ) → f < A .faults → (x : List ℕ)

@@ -3,10 +3,10 @@ use Prim.Native.Nat.{ℕ}
 use mathlib.Core.List.{List, [], _∷_, _++_, map}
 use mathlib.Core.Path.{_≡_, refl}
 use Rattle.answers.specs.declared.Counts.{Counts}
-use Rattle.answers.specs.Answers.{Told, refusal, result, answerTold, replyTold}
+use Rattle.answers.specs.Told.{Told, refusal, result, answerTold, replyTold}
 use Rattle.answers.specs.Tests.{firstBroken}
-use Rattle.answers.specs.Calls.{doneBy}
-use Rattle.form.specs.Check.{counts, place, checkedWith, checkTold}
+use Rattle.answers.specs.Calls.{work, outcomeBy}
+use Rattle.form.specs.Check.{counts, cardLength, checkedWith, checked}
 use Rattle.form.proofs.Examples.{S, F}
 use Rattle.wiring.specs.Joined.{joinedCounts, joined, joinTests}
 
@@ -87,7 +87,7 @@ table =
 abbrev pub answered : Case → Case
 answered c =
     let js = joined countsS (c .counted) (c .wires) S (c .card) in
-    record { card = c .card; counted = c .counted; wires = c .wires; words = js; told = checkTold js }
+    record { card = c .card; counted = c .counted; wires = c .wires; words = js; told = answerTold (checked js) }
 
 -- the counts of two cards, wires and a buffer's room, and what the tests after the checks tell of them
 pub record Tried : Type 0 where
@@ -119,8 +119,9 @@ orders =
 
 abbrev pub tried : Tried → Tried
 tried t =
-    let n = place (joinedCounts (t .first) (t .second) (t .wires)) in
-    try (t .first) (t .second) (t .wires) (t .room) (replyTold (doneBy (firstBroken (joinTests (t .first) (t .second) (t .wires) n (t .room))) n))
+    let n = cardLength (joinedCounts (t .first) (t .second) (t .wires)) in
+    let w = work (joinTests (t .first) (t .second) (t .wires) n (t .room)) n [] in
+    try (t .first) (t .second) (t .wires) (t .room) (replyTold (outcomeBy (firstBroken (w .tests)) w .reply))
 
 pub examples : (map answered table ≡ table) × (map tried orders ≡ orders)
 unfolding joined joinTests checkedWith answerTold replyTold

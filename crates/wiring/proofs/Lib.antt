@@ -6,7 +6,7 @@ pub mod Words
 pub mod Written
 pub mod BothWritten
 pub mod Accepted
-pub mod Places
+pub mod Sites
 pub mod Part
 pub mod Values
 pub mod Faults

@@ -17,11 +17,11 @@ use Rattle.value.specs.Values.{taken, walk, graph, value}
 use Rattle.value.proofs.Walk.{same-graph}
 use Rattle.value.proofs.Values.{taken-later, value-solves, value-unique}
 use Rattle.wiring.specs.Joined.{free, numberA, numberB, joinedCounts, joined}
-use Rattle.wiring.specs.Parts.{placeIn}
+use Rattle.wiring.specs.Parts.{siteIn}
 use Rattle.wiring.proofs.Stands.{Wired, Stands}
 use Rattle.wiring.proofs.Numbers.{Stays, input-a, free-b, free-inside}
 use Rattle.wiring.proofs.Written.{WrittenIn, written-stands}
-use Rattle.wiring.proofs.Places.{node-in, graph-in}
+use Rattle.wiring.proofs.Sites.{node-in, graph-in}
 
 -- BY GRAPHS: the card ws with the counts c is a part of the card js with the counts C, as its outputs stand there, each a graph of js. This is all
 -- that the laws of values ask. (`WrittenIn` is the same by words, and tells it.)
@@ -45,8 +45,8 @@ written-part {ws} {js} {c} W shape l = record {
 -- nodes and outputs there.
 pub record Alike (ws js : List ℕ) (c C : Counts) (number : ℕ → ℕ) (before : ℕ) (s s′ : Setting) (x x′ : List ℕ) : Type 0 where
   pub input : (g : ℕ) → g < c .inputs → value js C s x (number g) ≡ s′ (c .nodes + g) (bit x′ g)
-  pub node : (p v : ℕ) → p < c .nodes → s′ p v ≡ s (placeIn (C .nodes) before (c .nodes) number p) v
-  pub output : (g v : ℕ) → c .inputs ≤ g → g < c .graphs → s′ (c .nodes + g) v ≡ s (placeIn (C .nodes) before (c .nodes) number (c .nodes + g)) v
+  pub node : (p v : ℕ) → p < c .nodes → s′ p v ≡ s (siteIn (C .nodes) before (c .nodes) number p) v
+  pub output : (g v : ℕ) → c .inputs ≤ g → g < c .graphs → s′ (c .nodes + g) v ≡ s (siteIn (C .nodes) before (c .nodes) number (c .nodes + g)) v
 
 -- THE LAW OF A PART
 module _ {ws js : List ℕ} {c C : Counts} {number : ℕ → ℕ} {before : ℕ} (part : PartOf ws js c C number before)
@@ -59,7 +59,7 @@ module _ {ws js : List ℕ} {c C : Counts} {number : ℕ → ℕ} {before : ℕ}
   taken-there g k i l h =
       let t = part .stands g i l in
       let d = decides ws g k (there (reads ws g k)) in
-      let e : placeIn (C .nodes) before (c .nodes) number (first ws g + k) ≡ first js (number g) + k =
+      let e : siteIn (C .nodes) before (c .nodes) number (first ws g + k) ≡ first js (number g) + k =
       node-in (C .nodes) before (c .nodes) number (first ws g + k) (node-below (part .own) g k l h) ∙ omega (arith, t .start) in
       rw (t .read k h, t .decide k (there (reads ws g k)) h, t .exit k (s (first js (number g) + k) d) h)
       (ap (exits ws g k) (alike .node (first ws g + k) d (node-below (part .own) g k l h) ∙ ap (λ (p : ℕ). s p d) e))

@@ -1,4 +1,4 @@
--- THE VALUES of a joined card's graphs are those of its parts, under every setting of its places and every vector. Assumes nothing.
+-- THE VALUES of a joined card's graphs are those of its parts, under every setting of its sites and every vector. Assumes nothing.
 use Prim.Native.Nat.{ℕ, _+_, _<_, _≤_}
 use mathlib.Core.Path.{_≡_, refl, sym, ap, _∙_}
 use mathlib.Core.List.{List}
@@ -15,16 +15,16 @@ use Rattle.value.specs.Settings.{Setting, Keeps}
 use Rattle.value.specs.Values.{value}
 use Rattle.value.proofs.Values.{value-input, value-bit}
 use Rattle.wiring.specs.Joined.{isFree, freeBelow, free, numberA, numberB, joinedCounts, joined}
-use Rattle.wiring.specs.Parts.{placeIn, placeA, placeB, isWired, settingA, settingB, vectorA, vectorB}
-use Rattle.wiring.specs.Both.{Together}
+use Rattle.wiring.specs.Parts.{siteIn, siteA, siteB, isWired, settingA, settingB, vectorA, vectorB}
+use Rattle.wiring.specs.Both.{ValuesOfBoth}
 use Rattle.wiring.proofs.Numbers.{input-a, free-b, wired-b, free-inside}
-use Rattle.wiring.proofs.Places.{graph-in, wired-node, wired-output, wired-input}
+use Rattle.wiring.proofs.Sites.{graph-in, wired-node, wired-output, wired-input}
 use Rattle.wiring.proofs.Part.{Alike, part-values, Joins}
 
--- what the setting s makes of the parts' places are the settings t of A and u of B, which leaves B's wired inputs alone
+-- what the setting s makes of the parts' sites are the settings t of A and u of B, which leaves B's wired inputs alone
 pub record Shares (A B : Counts) (wires : List ℕ) (s t u : Setting) : Type 0 where
-  pub a : (p v : ℕ) → p < A .nodes + A .graphs → t p v ≡ s (placeA A B wires p) v
-  pub b : (p v : ℕ) → p < B .nodes + B .graphs → isWired A B wires p ≡ false → u p v ≡ s (placeB A B wires p) v
+  pub a : (p v : ℕ) → p < A .nodes + A .graphs → t p v ≡ s (siteA A B wires p) v
+  pub b : (p v : ℕ) → p < B .nodes + B .graphs → isWired A B wires p ≡ false → u p v ≡ s (siteB A B wires p) v
   pub wired : (p v : ℕ) → p < B .nodes + B .graphs → isWired A B wires p ≡ true → u p v ≡ v
   pub bits : Keeps t
 
@@ -66,13 +66,13 @@ module _ {a b : List ℕ} {A B : Counts} {wires : List ℕ} (joins : Joins a b A
 
     -- an input of the joined card has its vector bit: so has an input of a part that is one of them
     input-there : (number : ℕ → ℕ) (before n g : ℕ) {v w : ℕ} → number g < A .inputs + free A B wires → bit x (number g) ≡ v
-        → w ≡ s (placeIn (C .nodes) before n number (n + g)) v → value js C s x (number g) ≡ w
+        → w ≡ s (siteIn (C .nodes) before n number (n + g)) v → value js C s x (number g) ≡ w
     input-there number before n g {v} l e same =
         value-input (joins .part-a .whole) s x (number g) (omega (arith, few)) (joins .input (number g) l)
         ∙ ap (s (C .nodes + number g)) e ∙ ap (λ (p : ℕ). s p v) (sym (graph-in (C .nodes) before n number g)) ∙ sym same
 
     alike-a : Alike a js A C (numberA A B wires) 0 s t x xA
-    unfolding placeA
+    unfolding siteA
     alike-a = record {
       input = λ g h.
           let e = input-a A B wires g h in
@@ -87,7 +87,7 @@ module _ {a b : List ℕ} {A B : Counts} {wires : List ℕ} (joins : Joins a b A
 
     -- a free input of B is one of the joined card's inputs, and a wired one is a graph of A
     inputs-b : (f : Bool) (h : ℕ) → h < B .inputs → isFree wires h ≡ f → value js C s x (numberB A B wires h) ≡ u (B .nodes + h) (bit xB h)
-    unfolding placeB
+    unfolding siteB
     inputs-b true h l e =
         let n = free-b A B wires h l e in
         input-there (numberB A B wires) (A .nodes) (B .nodes) h (omega (arith, free-inside A B wires h l e))
@@ -99,7 +99,7 @@ module _ {a b : List ℕ} {A B : Counts} {wires : List ℕ} (joins : Joins a b A
         ∙ sym (shares .wired (B .nodes + h) (bit xB h) (omega (arith, joins .part-b .own .inputs-in)) (wired-input A B wires h l ∙ ap not e))
 
     alike-b : Alike b js B C (numberB A B wires) (A .nodes) s u x xB
-    unfolding placeB
+    unfolding siteB
     alike-b = record {
       input = λ h l. inputs-b (isFree wires h) h l refl;
       node = λ p v h. shares .b p v (omega arith) (wired-node A B wires p h);
@@ -110,8 +110,8 @@ module _ {a b : List ℕ} {A B : Counts} {wires : List ℕ} (joins : Joins a b A
     values-b = part-values (joins .part-b) alike-b
 
   -- THE VALUES: of A with t and of B with u
-  pub together : {s t u : Setting} → Shares A B wires s t u → Together a b A B wires s t u
-  together shares = record {
+  pub values-of-both : {s t u : Setting} → Shares A B wires s t u → ValuesOfBoth a b A B wires s t u
+  values-of-both shares = record {
     vector-a = sound-a;
     vector-b = sound-b (shares .bits);
     value-a = values-a shares;
@@ -119,10 +119,10 @@ module _ {a b : List ℕ} {A B : Counts} {wires : List ℕ} (joins : Joins a b A
   }
 
   -- so it is with every setting that gives bits
-  pub joined-values : (s : Setting) → Keeps s → Together a b A B wires s (settingA A B wires s) (settingB A B wires s)
-  joined-values s keeps = together (record {
+  pub joined-values : (s : Setting) → Keeps s → ValuesOfBoth a b A B wires s (settingA A B wires s) (settingB A B wires s)
+  joined-values s keeps = values-of-both (record {
     a = λ p v h. refl;
     b = λ p v h e. rw e;
-    wired = λ p v h e. ap (λ (i : Bool). choose i v (s (placeB A B wires p) v)) e;
-    bits = λ p v h. keeps (placeA A B wires p) v h;
+    wired = λ p v h e. ap (λ (i : Bool). choose i v (s (siteB A B wires p) v)) e;
+    bits = λ p v h. keeps (siteA A B wires p) v h;
   })

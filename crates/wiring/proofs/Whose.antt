@@ -8,38 +8,38 @@ use native.Mathlib.Decide.{decLt}
 use Rattle.lists.proofs.Counting.{count-reached}
 use Rattle.answers.specs.declared.Counts.{Counts}
 use Rattle.wiring.specs.Joined.{isFree, free, numberA, numberB, joinedCounts}
-use Rattle.wiring.specs.Parts.{placeA, placeB, isWired}
+use Rattle.wiring.specs.Parts.{siteA, siteB, isWired}
 use Rattle.wiring.specs.Both.{Whose, ofA, ofB}
 use Rattle.wiring.proofs.Numbers.{input-a, output-a, free-b, output-b}
-use Rattle.wiring.proofs.Places.{node-in, graph-in, wired-node, wired-output, wired-input}
+use Rattle.wiring.proofs.Sites.{node-in, graph-in, wired-node, wired-output, wired-input}
 use Rattle.wiring.proofs.Part.{Joins}
 
 module _ {a b : List ℕ} {A B : Counts} {wires : List ℕ} (joins : Joins a b A B wires) (f : ℕ) where
   abbrev C : Counts
   C = joinedCounts A B wires
 
-  -- a fault at a place of A, and at one of B
-  at-place-a : (p : ℕ) → p < A .nodes + A .graphs → placeA A B wires p ≡ f / 2 → Whose A B wires f
-  at-place-a p l e =
+  -- a fault at a site of A, and at one of B
+  at-site-a : (p : ℕ) → p < A .nodes + A .graphs → siteA A B wires p ≡ f / 2 → Whose A B wires f
+  at-site-a p l e =
       let z : (2 * p + f % 2) / 2 ≡ p = omega arith in
       ofA (2 * p + f % 2) (omega (arith, joins .part-a .own .all-faults)) (rw (z, e) (omega arith))
 
-  at-place-b : (p : ℕ) → p < B .nodes + B .graphs → isWired A B wires p ≡ false → placeB A B wires p ≡ f / 2 → Whose A B wires f
-  at-place-b p l w e =
+  at-site-b : (p : ℕ) → p < B .nodes + B .graphs → isWired A B wires p ≡ false → siteB A B wires p ≡ f / 2 → Whose A B wires f
+  at-site-b p l w e =
       let z : (2 * p + f % 2) / 2 ≡ p = omega arith in
       ofB (2 * p + f % 2) (omega (arith, joins .part-b .own .all-faults)) (ap (isWired A B wires) z ∙ w) (rw (z, e) (omega arith))
 
   -- at a graph k of the joined card: inputs are those of A and the free ones of B, and then come the outputs of both
   module _ (k : ℕ) (at-k : C .nodes + k ≡ f / 2) where
     at-graph-a : (g : ℕ) → g < A .graphs → numberA A B wires g ≡ k → Whose A B wires f
-    unfolding placeA
+    unfolding siteA
     at-graph-a g l e =
-        at-place-a (A .nodes + g) (omega arith) (graph-in (C .nodes) 0 (A .nodes) (numberA A B wires) g ∙ ap (C .nodes +_) e ∙ at-k)
+        at-site-a (A .nodes + g) (omega arith) (graph-in (C .nodes) 0 (A .nodes) (numberA A B wires) g ∙ ap (C .nodes +_) e ∙ at-k)
 
     at-graph-b : (h : ℕ) → h < B .graphs → isWired A B wires (B .nodes + h) ≡ false → numberB A B wires h ≡ k → Whose A B wires f
-    unfolding placeB
+    unfolding siteB
     at-graph-b h l w e =
-        at-place-b (B .nodes + h) (omega arith) w (graph-in (C .nodes) (A .nodes) (B .nodes) (numberB A B wires) h ∙ ap (C .nodes +_) e ∙ at-k)
+        at-site-b (B .nodes + h) (omega arith) w (graph-in (C .nodes) (A .nodes) (B .nodes) (numberB A B wires) h ∙ ap (C .nodes +_) e ∙ at-k)
 
     at-free : A .inputs ≤ k → k < A .inputs + free A B wires → Whose A B wires f
     at-free m l =
@@ -65,14 +65,14 @@ module _ {a b : List ℕ} {A B : Counts} {wires : List ℕ} (joins : Joins a b A
     ]
 
   pub joined-whose : f < C .faults → Whose A B wires f
-  unfolding placeA placeB
+  unfolding siteA siteB
   joined-whose l = elim (decLt (f / 2) (A .nodes)) [
-    | yes i ↦ at-place-a (f / 2) (omega arith) (node-in (C .nodes) 0 (A .nodes) (numberA A B wires) (f / 2) i ∙ omega arith)
+    | yes i ↦ at-site-a (f / 2) (omega arith) (node-in (C .nodes) 0 (A .nodes) (numberA A B wires) (f / 2) i ∙ omega arith)
     | no i ↦ elim (decLt (f / 2) (C .nodes)) [
       | yes j ↦
           let p = f / 2 - A .nodes in
           let n : p < B .nodes = omega arith in
-          at-place-b p (omega arith) (wired-node A B wires p n)
+          at-site-b p (omega arith) (wired-node A B wires p n)
           (node-in (C .nodes) (A .nodes) (B .nodes) (numberB A B wires) p n ∙ omega arith)
       | no j ↦ at-graph (f / 2 - C .nodes) (omega arith) (omega arith)
     ]

@@ -14,7 +14,7 @@ use Rattle.word32.specs.Fields.{kind, readSpare, readGraph, readInverted, withR
 use Rattle.answers.specs.declared.Counts.{Counts}
 use Rattle.layout.specs.Layout.{decided}
 use Rattle.layout.specs.Shape.{Accepts}
-use Rattle.form.specs.Check.{place}
+use Rattle.form.specs.Check.{cardLength}
 use Rattle.wiring.specs.Joined.{moved, free, numberA, numberB, joinedCounts, joined}
 
 -- ONE MOVED WORD. A word that is no read stays; a read keeps all but the number of its graph.
@@ -74,7 +74,7 @@ module _ {a b : List ℕ} {A B : Counts} (x : Accepts a A) (y : Accepts b B) (wi
   abbrev partB : List ℕ
   partB = part (numberB A B wires) (B .inputs) b
 
-  pub joined-long : length js ≡ place (joinedCounts A B wires)
+  pub joined-long : length js ≡ cardLength (joinedCounts A B wires)
   unfolding joined
   joined-long =
       length-append zeros (partA ++ partB)

@@ -23,10 +23,10 @@ module _ (A B : Counts) (wires : List ℕ) where
   FaultsA fs = Each (λ f. f < A .faults) fs
 
   abbrev pub FaultsB : List ℕ → Type 0
-  FaultsB gs = Each (λ f. (f < B .faults) × (isWired A B wires (f / 2) ≡ false)) gs
+  FaultsB fs′ = Each (λ f. (f < B .faults) × (isWired A B wires (f / 2) ≡ false)) fs′
 
   abbrev pub bothFaults : List ℕ → List ℕ → List ℕ
-  bothFaults fs gs = map (faultA A B wires) fs ++ map (faultB A B wires) gs
+  bothFaults fs fs′ = map (faultA A B wires) fs ++ map (faultB A B wires) fs′
 
   -- whose a fault f of the joined card is: fault e of A, or fault e of B, at no wired input
   pub data Whose (f : ℕ) : Type 0 where
@@ -41,7 +41,7 @@ module _ (a b : List ℕ) (A B : Counts) (wires : List ℕ) where
   abbrev C : Counts
   C = joinedCounts A B wires
 
-  -- THE CARDS ONE AFTER THE OTHER under a vector x of the joined card: the values of A, with a setting t of its places; the vector that B gets, whose
+  -- THE CARDS ONE AFTER THE OTHER under a vector x of the joined card: the values of A, with a setting t of its sites; the vector that B gets, whose
   -- wired inputs have those values; and under it the values of B, with a setting u
   abbrev pub graphA : Setting → List ℕ → ℕ → ℕ
   graphA t x = value a A t (vectorA A B wires x)
@@ -53,7 +53,7 @@ module _ (a b : List ℕ) (A B : Counts) (wires : List ℕ) where
   graphB t u x = value b B u (givenB t x)
 
   -- with the setting s the joined card has, under every vector, the values of A with t and B with u; what A and B get are vectors of the accepted form
-  pub record Together (s t u : Setting) : Type 0 where
+  pub record ValuesOfBoth (s t u : Setting) : Type 0 where
     pub vector-a : (x : List ℕ) → vectorVerdict (A .inputs) (vectorA A B wires x) ≡ Sound
     pub vector-b : (x : List ℕ) → vectorVerdict (B .inputs) (givenB t x) ≡ Sound
     pub value-a : (x : List ℕ) (g : ℕ) → g < A .graphs → value js C s x (numberA A B wires g) ≡ graphA t x g
@@ -66,17 +66,17 @@ module _ (a b : List ℕ) (A B : Counts) (wires : List ℕ) where
     pub observable-a : (g : ℕ) → g < A .graphs → observable js (numberA A B wires g) ≡ observable a g
     pub observable-b : (h : ℕ) → h < B .graphs → isWired A B wires (B .nodes + h) ≡ false → observable js (numberB A B wires h) ≡ observable b h
     -- ITS VALUES, with every setting that gives bits
-    pub values : (s : Setting) → Keeps s → Together s (settingA A B wires s) (settingB A B wires s)
+    pub values : (s : Setting) → Keeps s → ValuesOfBoth s (settingA A B wires s) (settingB A B wires s)
     -- ITS FAULTS: those of A and of B, holding together, are faults of it, and give it the values of A with A's and of B with B's
-    pub faults : (fs gs : List ℕ) → FaultsA A B wires fs → FaultsB A B wires gs
-        → Each (λ f. f < C .faults) (bothFaults A B wires fs gs) × Together (faulty (bothFaults A B wires fs gs)) (faulty fs) (faulty gs)
-    -- and it has no others, so that each place of it, a node or a graph, is one of A or of B
+    pub faults : (fs fs′ : List ℕ) → FaultsA A B wires fs → FaultsB A B wires fs′
+        → Each (λ f. f < C .faults) (bothFaults A B wires fs fs′) × ValuesOfBoth (faulty (bothFaults A B wires fs fs′)) (faulty fs) (faulty fs′)
+    -- and it has no others, so that each site of it, a node or a graph, is one of A or of B
     pub whose : (f : ℕ) → f < C .faults → Whose A B wires f
     -- WHAT A VECTOR CATCHES: faults show in it exactly where they show in A or in B
-    pub shown : (fs gs : List ℕ) → FaultsA A B wires fs → FaultsB A B wires gs → (x : List ℕ)
-        → observed js (C .graphs) (value js C good x) (value js C (faulty (bothFaults A B wires fs gs)) x)
+    pub shown : (fs fs′ : List ℕ) → FaultsA A B wires fs → FaultsB A B wires fs′ → (x : List ℕ)
+        → observed js (C .graphs) (value js C good x) (value js C (faulty (bothFaults A B wires fs fs′)) x)
         ≡ observed a (A .graphs) (graphA good x) (graphA (faulty fs) x)
-        || observed b (B .graphs) (graphB good good x) (graphB (faulty fs) (faulty gs) x)
+        || observed b (B .graphs) (graphB good good x) (graphB (faulty fs) (faulty fs′) x)
     -- so a fault of A is caught where A catches it, or B shows what it gets from A; and a fault of B where B, with what good A gives it, catches it
     pub catches-a : (f : ℕ) → f < A .faults → (x : List ℕ)
         → detects js C x (faultA A B wires f)

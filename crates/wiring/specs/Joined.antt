@@ -8,6 +8,7 @@ use lib.Dec.{ltb, leb, eqb}
 use Rattle.lists.specs.Counting.{choose, count, least}
 use Rattle.lists.specs.Tables.{grow, tab, always}
 use Rattle.word32.specs.Fields.{kind, readGraph, withRead}
+use Rattle.answers.specs.Limits.{maxGraphs, maxNodes}
 use Rattle.answers.specs.declared.Counts.{Counts}
 use Rattle.answers.specs.declared.Rule.the-variants.{WireForm, JoinedTooLarge, BufferTooShort}
 use Rattle.answers.specs.Tests.{Test, test}
@@ -27,7 +28,7 @@ wrongWire G wires i = not (isFree wires i) && leb G (getD wires i 0)
 -- a joined card with the counts c and n words: the limits of a card (9,216 words are 1,024 + 2 × 4,096, and need no test), and a buffer of `room` words
 abbrev pub sizeTests : Counts → ℕ → ℕ → List Test
 sizeTests c n room =
-    test (ltb 1024 (c .graphs) || ltb 4096 (c .nodes)) JoinedTooLarge 0
+    test (ltb maxGraphs (c .graphs) || ltb maxNodes (c .nodes)) JoinedTooLarge 0
     ∷ test (ltb room n) BufferTooShort 0
     ∷ []
 

@@ -1,4 +1,4 @@
--- The parts of a joined card: where the places of A and of B are in it, and what a vector and a setting of it are for each part. For accepted cards.
+-- The parts of a joined card: where the sites of A and of B are in it, and what a vector and a setting of it are for each part. For accepted cards.
 -- Assumes nothing.
 use Prim.Native.Nat.{ℕ, _+_, _-_, _*_, _/_, _%_}
 use mathlib.Core.List.{List}
@@ -12,41 +12,41 @@ use Rattle.testvectors.specs.Made.{vectorOf}
 use Rattle.value.specs.Settings.{Setting}
 use Rattle.wiring.specs.Joined.{isFree, freeBelow, numberA, numberB}
 
--- the place of a joined card of N nodes where place p of a part is, whose n nodes follow `before` others and whose graphs have new numbers
-abbrev pub placeIn : ℕ → ℕ → ℕ → (ℕ → ℕ) → ℕ → ℕ
-placeIn N before n number p = choose (ltb p n) (before + p) (N + number (p - n))
+-- the site of a joined card of N nodes where site p of a part is, whose n nodes follow `before` others and whose graphs have new numbers
+abbrev pub siteIn : ℕ → ℕ → ℕ → (ℕ → ℕ) → ℕ → ℕ
+siteIn N before n number p = choose (ltb p n) (before + p) (N + number (p - n))
 
--- the fault of a joined card that is fault f of a part: the same stuck value, at the part's place
+-- the fault of a joined card that is fault f of a part: the same stuck value, at the part's site
 abbrev pub faultIn : (ℕ → ℕ) → ℕ → ℕ
-faultIn place f = 2 * place (f / 2) + f % 2
+faultIn site f = 2 * site (f / 2) + f % 2
 
 module _ (A B : Counts) (wires : List ℕ) where
   -- THE PLACES: A's nodes keep their numbers, and B's follow them
-  unfoldable pub placeA : ℕ → ℕ
+  unfoldable pub siteA : ℕ → ℕ
   unfolding numberA
-  placeA p = placeIn (A .nodes + B .nodes) 0 (A .nodes) (numberA A B wires) p
+  siteA p = siteIn (A .nodes + B .nodes) 0 (A .nodes) (numberA A B wires) p
 
-  unfoldable pub placeB : ℕ → ℕ
+  unfoldable pub siteB : ℕ → ℕ
   unfolding numberB
-  placeB p = placeIn (A .nodes + B .nodes) (A .nodes) (B .nodes) (numberB A B wires) p
+  siteB p = siteIn (A .nodes + B .nodes) (A .nodes) (B .nodes) (numberB A B wires) p
 
-  -- place p of B is a wired input: the joined card has no such place
+  -- site p of B is a wired input: the joined card has no such site
   abbrev pub isWired : ℕ → Bool
   isWired p = leb (B .nodes) p && (ltb (p - B .nodes) (B .inputs) && not (isFree wires (p - B .nodes)))
 
   -- THE FAULTS of a joined card that are those of A, and of B
   abbrev pub faultA : ℕ → ℕ
-  faultA f = faultIn placeA f
+  faultA f = faultIn siteA f
 
   abbrev pub faultB : ℕ → ℕ
-  faultB f = faultIn placeB f
+  faultB f = faultIn siteB f
 
-  -- what a setting of the joined card's places is for A, and for B, whose wired inputs it leaves alone
+  -- what a setting of the joined card's sites is for A, and for B, whose wired inputs it leaves alone
   abbrev pub settingA : Setting → Setting
-  settingA s p v = s (placeA p) v
+  settingA s p v = s (siteA p) v
 
   abbrev pub settingB : Setting → Setting
-  settingB s p v = choose (isWired p) v (s (placeB p) v)
+  settingB s p v = choose (isWired p) v (s (siteB p) v)
 
   -- A's part of a vector x of the joined card; and B's, where A's graphs have the values v: free inputs are as in x, wired ones have A's values
   abbrev pub vectorA : List ℕ → List ℕ

@@ -1,13 +1,11 @@
 -- `block::take_block` meets its contract. Assumes nothing.
--- The invariant: the vectors of the block below i are taken in, and the result counts both buffers.
-use Prim.Native.Nat.{_+_, _-_, _≤_}
+-- The invariant: the vectors of the block below i are taken in.
+use Prim.Native.Nat.{_-_, _≤_}
 use Rattle.block.proofs.InGrade.{words-long, words-are}
-use Rattle.block.proofs.Updated.{updated, all-places, updated-none, updated-more}
+use Rattle.block.proofs.Updated.{all-sites, took-none, took-more}
 use Rattle.block.proofs.take_block.Statement.{statement}
 use Rattle.block.proofs.take_block.Tie as tie
-use Rattle.block.specs.Block.{UpdatedAll}
-use Rattle.cardtables.specs.Stems.{inGrade}
-use Rattle.running.specs.Running.{Counted}
+use Rattle.block.specs.Block.{TookIn}
 use Rattle.running.proofs.Fold.{counted-as}
 use Rattle.testvectors.proofs.Laws.{vector-inside, vector-width}
 use Rattle.testvectors.specs.Vectors.{vectors}
@@ -19,20 +17,20 @@ use native.Mathlib.Omega.{arith}
 abbrev Inv-loop : tie.InvT-loop
 Inv-loop card c tables vectors marks₀ tallies₀ values₀ walk₀ caught₀ n all graded q₀ i₀ marks tallies values walk caught q i =
     (i ≤ n) × (length marks ≡ length marks₀) × (length tallies ≡ length tallies₀) × (5120 ≡ length values) × (2080 ≡ length walk) × (5120 ≡ length caught)
-    × (q .vector ≡ q₀ .vector + i) × Counted (inGrade card c) (c .faults) marks tallies q × UpdatedAll card c vectors (q₀ .vector) i marks₀ tallies₀ marks tallies
+    × TookIn card c vectors i marks₀ tallies₀ marks tallies q₀ q
 
 abbrev μ-loop : tie.MeasureT-loop
 μ-loop card c tables vectors marks₀ tallies₀ values₀ walk₀ caught₀ n all graded q₀ i₀ marks tallies values walk caught q i =
     n - i
 
-place-table-requires : tie.Need-place-table-requires Inv-loop μ-loop
-place-table-requires c κs = search needs
+site-table-requires : tie.Need-site-table-requires Inv-loop μ-loop
+site-table-requires c κs = search needs
 
 walk-room-requires : tie.Need-walk-room-requires Inv-loop μ-loop
 walk-room-requires c κs = search needs
 
-place-table-requires-2 : tie.Need-place-table-requires-2 Inv-loop μ-loop
-place-table-requires-2 c κs = search needs
+site-table-requires-2 : tie.Need-site-table-requires-2 Inv-loop μ-loop
+site-table-requires-2 c κs = search needs
 
 count-vectors-requires : tie.Need-count-vectors-requires Inv-loop μ-loop
 count-vectors-requires c κs =
@@ -60,7 +58,7 @@ loop-holds : tie.Need-loop-holds Inv-loop μ-loop
 loop-holds c =
     let at-table = c .before .before .before .before .before in
     let start = at-table .before .before .before .before .before .before .before in
-    (omega arith, refl, refl, at-table .before .before .place-table .ensures, at-table .before .walk-room .ensures, at-table .place-table2 .ensures, omega arith, start .pre .2, updated-none)
+    (omega arith, refl, refl, at-table .before .before .site-table .ensures, at-table .before .walk-room .ensures, at-table .site-table2 .ensures, took-none (start .pre .2))
 
 vector-at-requires : tie.Need-vector-at-requires Inv-loop μ-loop
 vector-at-requires c κs =
@@ -115,11 +113,11 @@ take-in-requires c κs =
     let start = at-table .before .before .before .before .before .before .before in
     let shape = start .pre .0 .ready .shape in
     let inv = at-loop .loop .inv in (
-      omega (arith, inv .6, start .pre .1 .few, at-test .loop-test .taken, at-count .count-vectors .ensures),
+      omega (arith, inv .6 .vector, start .pre .1 .few, at-test .loop-test .taken, at-count .count-vectors .ensures),
       omega (arith, shape .few-nodes, shape .few-graphs),
       at-catch .catch-vector .ensures .long,
       words-long (start .pre .0) (at-loop .before .before .grade-words .ensures),
-      rw (all-places shape) (counted-as (λ f l. sym (words-are (start .pre .0) (at-loop .before .before .grade-words .ensures) f l)) (inv .7)),
+      rw (all-sites shape) (counted-as (λ f l. sym (words-are (start .pre .0) (at-loop .before .before .grade-words .ensures) f l)) (inv .6 .counted)),
     )
 
 add-i : tie.Need-add-i Inv-loop μ-loop
@@ -157,9 +155,8 @@ loop-again c =
       omega (arith, inv .3, catch-kept .0),
       omega (arith, inv .4, catch-kept .1 .0),
       omega (arith, inv .5, catch-kept .1 .1 .0),
-      omega (arith, inv .6, took .ensures .0),
-      counted-as (words-are tabled (at-loop .before .before .grade-words .ensures)) (rw (all-places (tabled .ready .shape)) at (took .ensures .2)),
-      updated-more (inv .8) (rw (at-vector .vector-at .ensures, inv .6) at (updated (tabled .ready .shape) _ told (took .ensures .1))),
+      took-more (tabled .ready .shape) (rw (at-vector .vector-at .ensures) at told) (inv .6) (took .ensures .0) (took .ensures .1)
+          (counted-as (words-are tabled (at-loop .before .before .grade-words .ensures)) (rw (all-sites (tabled .ready .shape)) at (took .ensures .2))),
     )
 
 same-length : tie.Need-same-length Inv-loop μ-loop
@@ -177,7 +174,7 @@ returns c =
     let start = at-table .before .before .before .before .before .before .before in
     let inv = at-loop .loop .inv in
     let all : at-loop .loop .i ≡ vectors (start .args .c .inputs) (start .args .vectors .now) = omega (arith, inv .0, c .loop-test .left, at-count .count-vectors .ensures) in
-    record { vector = omega (arith, inv .6, all); updated = rw all at (inv .8); counted = inv .7 }
+    rw all at (inv .6)
 
 pub take-block-spec : {M : Type 1} → statement M
 take-block-spec =
@@ -185,9 +182,9 @@ take-block-spec =
     (tie.spec
     Inv-loop
     μ-loop
-    place-table-requires
+    site-table-requires
     walk-room-requires
-    place-table-requires-2
+    site-table-requires-2
     count-vectors-requires
     add-all
     (λ c κs. search needs)

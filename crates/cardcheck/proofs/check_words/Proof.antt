@@ -76,7 +76,7 @@ use Rattle.nodecheck.proofs.check_nodes as nodes
 use Rattle.nodecheck.proofs.check_nodes.Symbol as nodes-def
 use Rattle.nodecheck.proofs.check_nodes.Symbol.{name as #nodecheck·check-nodes}
 use Rattle.nodecheck.proofs.check_nodes.Met as nodes-thm
-use Rattle.cardcheck.specs.Graph.{Few, AtPlace, Opened, OpeningTold, GraphTold}
+use Rattle.cardcheck.specs.Graph.{Few, DueAfter, Opened, OpeningTold, GraphTold}
 use Rattle.cardcheck.specs.declared.Header.{Header}
 use Rattle.cardcheck.specs.declared.Opening.{Opening}
 use Rattle.cardcheck.specs.declared.Opening.the-variants as opening
@@ -196,7 +196,7 @@ module _ {M : Type 1} (𝓤 : URA M) (H : Heap 𝓤) (A : Atoms 𝓤) (W : Given
   abbrev to-open : Due → Counts → Open 𝓤 H A mem run .Ghost
   to-open d c = ((tt, tt, tt, (d, (c, (extra, tt))), (S′.lowered d ∷ [], (Ct′.lowered c ∷ [], (vint w64 extra ∷ [], tt)))), tt)
 
-  asked-open : (d : Due) → IsDue d → (c : Counts) → IsCounts c → (c .nodes ≤ 4096) × AtPlace d c → ent 𝓤 (emp 𝓤)
+  asked-open : (d : Due) → IsDue d → (c : Counts) → IsCounts c → (c .nodes ≤ 4096) × DueAfter d c → ent 𝓤 (emp 𝓤)
       (Open 𝓤 H A mem run .pre (to-open d c))
   asked-open d isd c isc ok = qed W [] ∵ says ! ok $ nothing ! $ owned ! usize (Is usize) (uint-makes 𝓤 H A W w64) extra _ (refl, extra-fits) $
       fjoin ! $ owned ! Ct.the-row (Is Ct.the-row) (SL.makes Ct.the-type Ct′.the-plain 𝓤 H A) c _ isc $ fjoin ! $

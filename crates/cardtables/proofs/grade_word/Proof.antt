@@ -2,7 +2,7 @@
 use Prim.Native.Nat.{_-_, _<_}
 use mathlib.Core.Path.{_∙_}
 use native.Mathlib.Omega.{arith}
-use Rattle.layout.proofs.Places.{walkable}
+use Rattle.layout.proofs.NodeNumbers.{walkable}
 use Rattle.cardtables.proofs.Stems.{node-graded, graph-word}
 use Rattle.cardtables.proofs.grade_word.Statement.{statement}
 use Rattle.cardtables.proofs.grade_word.Tie as tie

@@ -1,6 +1,6 @@
 -- `cardtables::make_tables` meets its contract. Assumes nothing.
 use native.Mathlib.Omega.{arith}
-use Rattle.layout.proofs.Places.{made-ready}
+use Rattle.layout.proofs.NodeNumbers.{made-ready}
 use Rattle.cardtables.proofs.Readers.{none-noted, noted-same}
 use Rattle.lists.proofs.Tables.{over-rest}
 use borrow.Author.Needs.{needs}
@@ -24,8 +24,8 @@ first-nodes-requires-2 c κs =
     let start = c .before .before .before .before .before .before .before .before .before .before .before in
     (start .pre, search needs)
 
-grade-places-requires : tie.Need-grade-places-requires
-grade-places-requires c κs =
+grade-sites-requires : tie.Need-grade-sites-requires
+grade-sites-requires c κs =
     let at-first-nodes2 = c .before .before in
     let at-note-readers = at-first-nodes2 .before .before .before in
     let start = at-note-readers .before .before .before .before .before .before .before .before .before in
@@ -39,4 +39,4 @@ grade-places-requires c κs =
 pub make-tables-spec : {M : Type 1} → statement M
 make-tables-spec =
     tie.close
-    (tie.spec (λ c κs. search needs) (λ c. search needs) (λ c κs. search needs) (λ c κs. search needs) (λ c. search needs) (λ c. search needs) note-readers-requires (λ c. search needs) first-nodes-requires-2 (λ c. search needs) grade-places-requires (λ c. search needs))
+    (tie.spec (λ c κs. search needs) (λ c. search needs) (λ c κs. search needs) (λ c κs. search needs) (λ c. search needs) (λ c. search needs) note-readers-requires (λ c. search needs) first-nodes-requires-2 (λ c. search needs) grade-sites-requires (λ c. search needs))

@@ -8,7 +8,7 @@ use lib.ListN.{length}
 use Rattle.layout.specs.Layout.{first}
 use Rattle.cardtables.specs.Tables.{ReadIn, Noted}
 use Rattle.layout.proofs.Firsts.{first-next}
-use Rattle.layout.proofs.Places.{size-asks, size-told, first-is, node-inside, place-is, read-below}
+use Rattle.layout.proofs.NodeNumbers.{size-asks, size-told, first-is, node-inside, node-number, read-below}
 use borrow.Author.Needs.{needs}
 use Rattle.cardtables.proofs.note_graph.Statement.{statement}
 use Rattle.cardtables.proofs.note_graph.Tie as tie
@@ -64,7 +64,7 @@ loop-again c =
       search needs,
       search needs,
       λ q r d.
-          let p = place-is (start .pre .0) b f in
+          let p = node-number (start .pre .0) b f in
           rw e (at-note-node .note-node .ensures q (at-loop .loop .k) b p (ap q p ∙ r (at-loop .loop .k) b) (at-loop .loop .inv .2 q r d)),
     )
 

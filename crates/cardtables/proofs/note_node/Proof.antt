@@ -1,5 +1,5 @@
 -- `cardtables::note_node` meets its contract. Assumes nothing.
-use Rattle.layout.proofs.Places.{read-at}
+use Rattle.layout.proofs.NodeNumbers.{read-at}
 use Rattle.cardtables.proofs.Readers.{node-noted}
 use borrow.Author.Needs.{needs}
 use Rattle.cardtables.proofs.note_node.Statement.{statement}

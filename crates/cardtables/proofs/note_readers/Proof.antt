@@ -7,7 +7,7 @@ use Rattle.layout.specs.Layout.{first}
 use Rattle.cardtables.specs.Stems.{readBy}
 use Rattle.cardtables.specs.Tables.{Noted}
 use Rattle.layout.proofs.Firsts.{first-next, first-few}
-use Rattle.layout.proofs.Places.{walkable}
+use Rattle.layout.proofs.NodeNumbers.{walkable}
 use Rattle.cardtables.proofs.Stems.{read-in}
 use borrow.Author.Needs.{needs}
 use Rattle.cardtables.proofs.note_readers.Statement.{statement}

@@ -1,4 +1,4 @@
--- `cardtables::total` meets its contract. The invariant: n is twice the number of the places below p whose word is 1. Assumes nothing.
+-- `cardtables::total` meets its contract. The invariant: n is twice the number of the sites below p whose word is 1. Assumes nothing.
 use Prim.Native.Nat.{ℕ, _+_, _-_, _*_, _≤_}
 use mathlib.Core.Path.{_≡_, refl, sym, ap}
 use mathlib.Core.List.{List}
@@ -15,18 +15,18 @@ use borrow.Author.Needs.{needs}
 use Rattle.cardtables.proofs.total.Statement.{statement}
 use Rattle.cardtables.proofs.total.Tie as tie
 
--- that the word of place p is 1
+-- that the word of site p is 1
 abbrev counts : List ℕ → ℕ → Bool
 counts tables p = eqb (getD tables (gradeOf p) 0) 1
 
 abbrev Inv-loop : tie.InvT-loop
-Inv-loop tables places n₀ p₀ n p = (p ≤ places) × (n ≡ 2 * count (counts tables) p)
+Inv-loop tables sites n₀ p₀ n p = (p ≤ sites) × (n ≡ 2 * count (counts tables) p)
 
 abbrev μ-loop : tie.MeasureT-loop
-μ-loop tables places n₀ p₀ n p = places - p
+μ-loop tables sites n₀ p₀ n p = sites - p
 
-add-places : tie.Need-add-places Inv-loop μ-loop
-add-places c = omega (arith, c .before .before .pre .1)
+add-sites : tie.Need-add-sites Inv-loop μ-loop
+add-sites c = omega (arith, c .before .before .pre .1)
 
 loop-holds : tie.Need-loop-holds Inv-loop μ-loop
 unfolding count
@@ -64,4 +64,4 @@ returns c =
 pub total-spec : {M : Type 1} → statement M
 total-spec =
     tie.close
-    (tie.spec Inv-loop μ-loop add-places loop-holds add-get get-requires (λ c κs. search needs) add-n (λ c. search needs) (λ c. search needs) loop-again returns)
+    (tie.spec Inv-loop μ-loop add-sites loop-holds add-get get-requires (λ c κs. search needs) add-n (λ c. search needs) (λ c. search needs) loop-again returns)

@@ -1,6 +1,6 @@
 -- `catches::catch_graph` meets its contract. Assumes nothing.
 use native.Mathlib.Omega.{arith}
-use Rattle.catches.proofs.Words.{told-more}
+use Rattle.catches.proofs.Words.{detections-more}
 use Rattle.catches.proofs.Steps.{graph-word}
 use borrow.Author.Needs.{needs}
 use Rattle.catches.proofs.catch_graph.Statement.{statement}
@@ -58,7 +58,7 @@ returns c =
     let e = at-is-altering .is-altering .ensures x p s in
     record {
       flat = e .1;
-      told = told-more (start .pre .0 .ready .shape) (start .pre .2) (s .told) (at-catch-nodes .catch-nodes .ensures x p (e .0)) (at-put .put .ensures)
+      detections = detections-more (start .pre .0 .ready .shape) (start .pre .2) (s .detections) (at-catch-nodes .catch-nodes .ensures x p (e .0)) (at-put .put .ensures)
           (graph-word (start .pre .0 .ready) p (start .pre .2) (e .0) (at-get .get .ensures) (at-caught-whole .caught-whole .ensures));
     }
 

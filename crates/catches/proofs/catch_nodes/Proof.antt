@@ -2,7 +2,7 @@
 use mathlib.Core.Path.{sym, _∙_}
 use native.Mathlib.Omega.{arith}
 use borrow.Author.Tests.{not-true, not-false}
-use Rattle.layout.proofs.Places.{some-node}
+use Rattle.layout.proofs.NodeNumbers.{some-node}
 use Rattle.catches.proofs.Words.{nodes-inside, nodes-cleared, along-quiet, along-start, along-then}
 use Rattle.catches.proofs.Steps.{quiet-nodes}
 use borrow.Author.Needs.{needs}

@@ -7,28 +7,28 @@ use mathlib.Core.Bool.{true}
 use native.Mathlib.Omega.{arith}
 use lib.ListN.{length}
 use Rattle.layout.specs.Layout.{size}
-use Rattle.layout.proofs.Places.{walkable, node-inside, read-below, place-below, exit-later, exit-below}
+use Rattle.layout.proofs.NodeNumbers.{walkable, node-inside, read-below, node-number-below, exit-later, exit-below}
 use Rattle.rules.specs.Rules.{critical}
 use Rattle.sweep.specs.Swept.{Swept}
-use Rattle.catches.specs.Due.{Due}
+use Rattle.catches.specs.ActivePath.{ActivePath}
 use Rattle.catches.specs.Words.{Along}
-use Rattle.catches.proofs.Due.{due-first}
+use Rattle.catches.proofs.ActivePath.{path-first}
 use Rattle.catches.proofs.Steps.{read-bit, path-ends, path-goes}
 use borrow.Author.Needs.{needs}
 use Rattle.catches.proofs.catch_path.Statement.{statement}
 use Rattle.catches.proofs.catch_path.Tie as tie
 
 abbrev Inv-loop : tie.InvT-loop
-Inv-loop card c firsts values g caught₀ first k₀ caught k = (k < size card g) × (length caught ≡ length caught₀)
-    × ((x : List ℕ) → Swept card c x (c .graphs) values → critical card c x g ≡ true → Along card c x g 0 caught₀ caught₀ → Along card c x g k caught₀ caught × Due card c x g k (k + 2))
+Inv-loop card c tables values g caught₀ first k₀ caught k = (k < size card g) × (length caught ≡ length caught₀)
+    × ((x : List ℕ) → Swept card c x (c .graphs) values → critical card c x g ≡ true → Along card c x g 0 caught₀ caught₀ → Along card c x g k caught₀ caught × ActivePath card c x g k (k + 2))
 
 abbrev μ-loop : tie.MeasureT-loop
-μ-loop card c firsts values g caught₀ first k₀ caught k = size card g - k
+μ-loop card c tables values g caught₀ first k₀ caught k = size card g - k
 
 loop-holds : tie.Need-loop-holds Inv-loop μ-loop
 loop-holds c =
     let start = c .before .before .before .before .before in
-    (start .pre .3, refl, λ x p q s. (s, due-first (start .pre .0 .shape) x _ (start .pre .2) (start .pre .3)))
+    (start .pre .3, refl, λ x p q s. (s, path-first (start .pre .0 .shape) x _ (start .pre .2) (start .pre .3)))
 
 add-j : tie.Need-add-j Inv-loop μ-loop
 add-j c =
@@ -65,7 +65,7 @@ put-requires c κs =
     let at-loop = c .before .before .before .before in
     let at-first-node = at-loop .before in
     let start = at-first-node .before .before .before .before .before in
-    omega (arith, place-below (start .pre .0) (start .pre .2) (at-loop .loop .inv .0) (at-first-node .first-node .ensures), start .pre .4, at-loop .loop .inv .1)
+    omega (arith, node-number-below (start .pre .0) (start .pre .2) (at-loop .loop .inv .0) (at-first-node .first-node .ensures), start .pre .4, at-loop .loop .inv .1)
 
 returns : tie.Need-returns Inv-loop μ-loop
 returns c =

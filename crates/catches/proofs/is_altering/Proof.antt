@@ -2,10 +2,10 @@
 use mathlib.Core.Path.{sym, _∙_}
 use native.Mathlib.Omega.{arith}
 use Rattle.layout.proofs.Firsts.{node-below}
-use Rattle.layout.proofs.Places.{walkable}
+use Rattle.layout.proofs.NodeNumbers.{walkable}
 use Rattle.cardtables.proofs.Stems.{sole-is}
 use Rattle.rules.proofs.Faults.{critical-observable}
-use Rattle.catches.proofs.Told.{sole-both, sole-tells}
+use Rattle.catches.proofs.Detections.{sole-both, sole-tells}
 use borrow.Author.Needs.{needs}
 use Rattle.catches.proofs.is_altering.Statement.{statement}
 use Rattle.catches.proofs.is_altering.Tie as tie
@@ -48,7 +48,7 @@ returns-2 c =
     let at-is-observable = at-if1 .before in
     let start = at-is-observable .before .before .before .before .before .before in
     let o = sym (at-is-observable .is-observable .ensures) ∙ at-if1 .if1 .left in
-    λ x p s. (sole-tells (start .pre .0) (start .pre .2) o (at-sole-reader .sole-reader .ensures) (sole-both _ (sym (at-is-sole .is-sole .ensures) ∙ at-if2 .if2 .taken)) (s .told) (c .get .ensures), s .flat)
+    λ x p s. (sole-tells (start .pre .0) (start .pre .2) o (at-sole-reader .sole-reader .ensures) (sole-both _ (sym (at-is-sole .is-sole .ensures) ∙ at-if2 .if2 .taken)) (s .detections) (c .get .ensures), s .flat)
 
 is-critical-requires : tie.Need-is-critical-requires
 is-critical-requires c κs =

@@ -1,6 +1,6 @@
 -- `change::flip_at` meets its contract. Assumes nothing.
 use native.Mathlib.Omega.{arith}
-use Rattle.layout.proofs.Places.{walkable, some-node}
+use Rattle.layout.proofs.NodeNumbers.{walkable, some-node}
 use Rattle.change.proofs.Laws.{flip-input, flip-output}
 use borrow.Author.Needs.{needs}
 use Rattle.change.proofs.flip_at.Statement.{statement}

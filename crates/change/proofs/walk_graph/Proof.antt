@@ -5,7 +5,7 @@ use mathlib.Core.Path.{_≡_, refl, sym, _∙_}
 use native.Mathlib.Omega.{arith}
 use lib.ListN.{getD}
 use Rattle.layout.specs.Layout.{size}
-use Rattle.layout.proofs.Places.{node-inside, read-below}
+use Rattle.layout.proofs.NodeNumbers.{node-inside, read-below}
 use Rattle.value.specs.Settings.{good}
 use Rattle.value.specs.Values.{walk, taken}
 use Rattle.change.specs.Flips.{BitsBelow}

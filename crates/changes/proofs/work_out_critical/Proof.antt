@@ -7,31 +7,31 @@ use lib.Dec.{ltb}
 use Rattle.lists.specs.Counting.{choose}
 use Rattle.lists.proofs.Tables.{over-same}
 use Rattle.catches.proofs.Caught.{critical-word}
-use Rattle.catches.proofs.Told.{told-node}
+use Rattle.catches.proofs.Detections.{detections-node}
 use borrow.Author.Needs.{needs}
 use Rattle.changes.proofs.work_out_critical.Statement.{statement}
 use Rattle.changes.proofs.work_out_critical.Tie as tie
 
 catch-vector-requires : tie.Need-catch-vector-requires
 catch-vector-requires c κs =
-    let at-place-table2 = c .before .before .before .before in
-    let at-walk-room = at-place-table2 .before in
-    let at-place-table = at-walk-room .before in
-    let at-make-tables = at-place-table .before in
+    let at-site-table2 = c .before .before .before .before in
+    let at-walk-room = at-site-table2 .before in
+    let at-site-table = at-walk-room .before in
+    let at-make-tables = at-site-table .before in
     let start = at-make-tables .before .before .before .before in
     let f = start .pre .0 .few-graphs in
     let n = start .pre .0 .few-nodes in (
       at-make-tables .make-tables .ensures,
       start .pre .1,
       record {
-        values-long = omega (arith, f, n, at-place-table .place-table .ensures);
+        values-long = omega (arith, f, n, at-site-table .site-table .ensures);
         walk-long = omega (arith, at-walk-room .walk-room .ensures);
-        caught-long = omega (arith, f, n, at-place-table2 .place-table2 .ensures);
+        caught-long = omega (arith, f, n, at-site-table2 .site-table2 .ensures);
       },
     )
 
-flag-places-requires : tie.Need-flag-places-requires
-flag-places-requires c κs =
+flag-sites-requires : tie.Need-flag-sites-requires
+flag-sites-requires c κs =
     let at-catch-vector = c .before .before .before .before .before in
     let at-walk-room = at-catch-vector .before .before .before .before .before .before in
     let start = at-walk-room .before .before .before .before .before .before in
@@ -39,15 +39,15 @@ flag-places-requires c κs =
 
 returns : tie.Need-returns
 returns c =
-    let at-flag-places = c .before .before in
-    let at-catch-vector = at-flag-places .before .before .before .before .before .before in
+    let at-flag-sites = c .before .before in
+    let at-catch-vector = at-flag-sites .before .before .before .before .before .before in
     let at-walk-room = at-catch-vector .before .before .before .before .before .before in
     let start = at-walk-room .before .before .before .before .before .before in
-    at-flag-places .flag-places .ensures ∙ over-same _ _ _ _ (λ j h.
-    let t = told-node (start .pre .0) (at-catch-vector .catch-vector .ensures) j h in
+    at-flag-sites .flag-sites .ensures ∙ over-same _ _ _ _ (λ j h.
+    let t = detections-node (start .pre .0) (at-catch-vector .catch-vector .ensures) j h in
     ap (λ (b : Bool). choose b 1 0) (ap (λ (n : ℕ). ltb n 2) t ∙ critical-word (start .pre .0) _ j h))
 
 pub work-out-critical-spec : {M : Type 1} → statement M
 work-out-critical-spec =
     tie.close
-    (tie.spec (λ c κs. search needs) (λ c κs. search needs) (λ c κs. search needs) (λ c κs. search needs) (λ c. search needs) (λ c. search needs) (λ c. search needs) (λ c. search needs) catch-vector-requires (λ c. search needs) flag-places-requires (λ c. search needs) returns)
+    (tie.spec (λ c κs. search needs) (λ c κs. search needs) (λ c κs. search needs) (λ c κs. search needs) (λ c. search needs) (λ c. search needs) (λ c. search needs) (λ c. search needs) catch-vector-requires (λ c. search needs) flag-sites-requires (λ c. search needs) returns)

@@ -2,9 +2,9 @@
 use Prim.Native.Nat.{_+_, _-_}
 use mathlib.Core.Path.{_≡_, _∙_}
 use native.Mathlib.Omega.{arith}
-use Rattle.layout.proofs.Places.{walkable}
+use Rattle.layout.proofs.NodeNumbers.{walkable}
 use Rattle.critical.specs.Walking.{listFrom}
-use Rattle.critical.proofs.Ends.{last-tells, listed-alone}
+use Rattle.critical.proofs.WalkEnd.{last-tells, listed-alone}
 use borrow.Author.Needs.{needs}
 use Rattle.critical.proofs.is_critical.Statement.{statement}
 use Rattle.critical.proofs.is_critical.Tie as tie

@@ -5,7 +5,7 @@ use mathlib.Core.Path.{_≡_, refl, _∙_}
 use native.Mathlib.Omega.{arith}
 use lib.ListN.{length, getD}
 use Rattle.critical.specs.Walking.{Entries, But}
-use Rattle.critical.proofs.Ends.{back-more, back-all, entries-kept}
+use Rattle.critical.proofs.WalkEnd.{back-more, back-all, entries-kept}
 use borrow.Author.Needs.{needs}
 use Rattle.critical.proofs.put_back.Statement.{statement}
 use Rattle.critical.proofs.put_back.Tie as tie

@@ -1,6 +1,6 @@
 -- `critical::step` meets its contract. Assumes nothing.
 use native.Mathlib.Omega.{arith}
-use Rattle.layout.proofs.Places.{walkable, some-node}
+use Rattle.layout.proofs.NodeNumbers.{walkable, some-node}
 use Rattle.critical.proofs.Steps.{entry-more, hidden-more, input-step, kept-step, listed-step}
 use borrow.Author.Needs.{needs}
 use Rattle.critical.proofs.step.Statement.{statement}

@@ -4,9 +4,9 @@ use mathlib.Core.Path.{_≡_, refl}
 use mathlib.Core.List.{List}
 use native.Mathlib.Omega.{arith}
 use lib.ListN.{length}
-use Rattle.layout.proofs.Places.{walkable}
+use Rattle.layout.proofs.NodeNumbers.{walkable}
 use Rattle.critical.specs.Walking.{Hidden, Entries, Walking}
-use Rattle.critical.proofs.Ends.{all-listed}
+use Rattle.critical.proofs.WalkEnd.{all-listed}
 use Rattle.critical.proofs.Steps.{skipped}
 use borrow.Author.Needs.{needs}
 use Rattle.critical.proofs.stopped_walk.Statement.{statement}

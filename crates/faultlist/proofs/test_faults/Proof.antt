@@ -2,7 +2,7 @@
 use mathlib.Core.Path.{sym, _∙_}
 use native.Mathlib.Omega.{arith}
 use borrow.Author.Needs.{needs}
-use Rattle.faultlist.proofs.Tested.{high-told, many-told, twice-told, short-told, none-told}
+use Rattle.faultlist.proofs.Tested.{high-told, odd-told, many-told, twice-told, short-told, none-told}
 use Rattle.faultlist.proofs.test_faults.Statement.{statement}
 use Rattle.faultlist.proofs.test_faults.Tie as tie
 
@@ -12,33 +12,42 @@ returns c = high-told _ _ _ _ (sym (c .before .too-high .ensures) ∙ c .if1 .ta
 returns-2 : tie.Need-returns-2
 returns-2 c =
     let at-if1 = c .before in
-    let low = sym (at-if1 .before .too-high .ensures) ∙ at-if1 .if1 .left in
-    many-told 0 _ _ _ low (omega arith) (omega (arith, c .if2 .taken))
+    odd-told _ _ _ _ (sym (at-if1 .before .too-high .ensures) ∙ at-if1 .if1 .left) (c .if2 .taken)
 
 returns-3 : tie.Need-returns-3
 returns-3 c =
-    let at-if2 = c .before .before in
+    let at-if2 = c .before in
     let at-if1 = at-if2 .before in
     let low = sym (at-if1 .before .too-high .ensures) ∙ at-if1 .if1 .left in
-    twice-told 0 _ _ _ low (omega arith) (omega (arith, at-if2 .if2 .left)) (sym (c .before .place-twice .ensures) ∙ c .if3 .taken)
+    many-told _ _ _ _ low (at-if2 .if2 .left) (omega (arith, c .if3 .taken))
 
 returns-4 : tie.Need-returns-4
 returns-4 c =
     let at-if3 = c .before .before in
-    let at-if2 = at-if3 .before .before in
+    let at-if2 = at-if3 .before in
     let at-if1 = at-if2 .before in
     let low = sym (at-if1 .before .too-high .ensures) ∙ at-if1 .if1 .left in
-    let apart = sym (at-if3 .before .place-twice .ensures) ∙ at-if3 .if3 .left in
-    short-told 0 _ _ _ low (omega arith) (omega (arith, at-if2 .if2 .left)) apart (c .if4 .taken)
+    twice-told _ _ _ _ low (at-if2 .if2 .left) (omega (arith, at-if3 .if3 .left)) (sym (c .before .site-twice .ensures) ∙ c .if4 .taken)
 
 returns-5 : tie.Need-returns-5
 returns-5 c =
-    let at-if3 = c .before .before in
-    let at-if2 = at-if3 .before .before in
+    let at-if4 = c .before .before in
+    let at-if3 = at-if4 .before .before in
+    let at-if2 = at-if3 .before in
     let at-if1 = at-if2 .before in
     let low = sym (at-if1 .before .too-high .ensures) ∙ at-if1 .if1 .left in
-    let apart = sym (at-if3 .before .place-twice .ensures) ∙ at-if3 .if3 .left in
-    none-told 0 _ _ _ low (omega arith) (omega (arith, at-if2 .if2 .left)) apart (c .if4 .left)
+    let apart = sym (at-if4 .before .site-twice .ensures) ∙ at-if4 .if4 .left in
+    short-told _ _ _ _ low (at-if2 .if2 .left) (omega (arith, at-if3 .if3 .left)) apart (c .if5 .taken)
+
+returns-6 : tie.Need-returns-6
+returns-6 c =
+    let at-if4 = c .before .before in
+    let at-if3 = at-if4 .before .before in
+    let at-if2 = at-if3 .before in
+    let at-if1 = at-if2 .before in
+    let low = sym (at-if1 .before .too-high .ensures) ∙ at-if1 .if1 .left in
+    let apart = sym (at-if4 .before .site-twice .ensures) ∙ at-if4 .if4 .left in
+    none-told _ _ _ _ low (at-if2 .if2 .left) (omega (arith, at-if3 .if3 .left)) apart (c .if5 .left)
 
 pub test-faults-spec : {M : Type 1} → statement M
-test-faults-spec = tie.close (tie.spec (λ c κs. search needs) returns returns-2 (λ c κs. search needs) returns-3 returns-4 returns-5)
+test-faults-spec = tie.close (tie.spec (λ c κs. search needs) returns returns-2 returns-3 (λ c κs. search needs) returns-4 returns-5 returns-6)

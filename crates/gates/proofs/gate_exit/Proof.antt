@@ -10,7 +10,7 @@ use Rattle.gates.proofs.gate_exit.Tie as tie
 returns : tie.Need-returns
 unfolding gateExit
 returns c =
-    (rw (← c .before .before .ends .ensures, eq-eqb _ _ (c .before .if1 .taken)) (c .constant .ensures .0), omega (arith, c .constant .ensures .1))
+    (rw (← c .before .before .controlling .ensures, eq-eqb _ _ (c .before .if1 .taken)) (c .constant .ensures .0), omega (arith, c .constant .ensures .1))
 
 returns-2 : tie.Need-returns-2
 unfolding gateExit
@@ -21,7 +21,7 @@ returns-3 : tie.Need-returns-3
 unfolding gateExit
 returns-3 c =
     let at-if-1 = c .before in
-    (rw (← at-if-1 .before .ends .ensures, ne-eqb _ _ (at-if-1 .if1 .left), lt-leb _ _ (c .if2 .left)), omega arith)
+    (rw (← at-if-1 .before .controlling .ensures, ne-eqb _ _ (at-if-1 .if1 .left), lt-leb _ _ (c .if2 .left)), omega arith)
 
 pub gate-exit-spec : {M : Type 1} → statement M
 gate-exit-spec =

@@ -1,21 +1,22 @@
 -- `join::join_accepted` meets its contract. Assumes nothing.
+use mathlib.Core.Path.{refl}
 use borrow.Author.Needs.{needs}
-use Rattle.wiring.proofs.Words.{joined-long}
-use Rattle.wiring.proofs.Accepted.{tests-wired}
-use Rattle.join.proofs.Written.{both-small, wires-named}
+use Rattle.answers.specs.Calls.{lent}
+use Rattle.answers.proofs.Ends.{breaks, finishes}
+use Rattle.join.proofs.Written.{both-within-limits, tests-told, words-fit, words-ask}
 use Rattle.join.proofs.join_accepted.Statement.{statement}
 use Rattle.join.proofs.join_accepted.Tie as tie
 
-test-join-requires : tie.Need-test-join-requires
-test-join-requires c κs = let p = c .before .before .before .before .pre in both-small (p .0) (p .1)
+test-wires-requires : tie.Need-test-wires-requires
+test-wires-requires c κs = let p = c .before .before .before .before .pre in both-within-limits (p .0) (p .1)
 
 returns : tie.Need-returns
 returns c =
     let at-tests = c .before .before .before in
     let start = at-tests .before .before .before .before .before in
-    let long = joined-long (start .pre .0) (start .pre .1) (start .args .wires .now) in
-    let e = rw (at-tests .test-join .ensures, ← long) at (c .before .rule .given .1) in
-    (rw e, rw e)
+    let a = start .args in
+    breaks _ _ _ _ refl
+    (tests-told (lent (a .wires .now) (a .odd)) (a .room) (start .pre .0) (start .pre .1) (at-tests .test-wires .ensures) (c .before .rule .given .1))
 
 write-joined-requires : tie.Need-write-joined-requires
 write-joined-requires c κs =
@@ -23,8 +24,8 @@ write-joined-requires c κs =
     let start = at-tests .before .before .before .before .before in
     let p = start .pre in
     let a = start .args in
-    let w = tests-wired (a .ca) (a .cb) (a .wires .now) _ _ (rw (at-tests .test-join .ensures) at (c .before .enum-told .given .1)) in
-    (p .0, p .1, wires-named (both-small (p .0) (p .1)) (w .0), w .0 .long, w .1)
+    let k = words-ask (lent (a .wires .now) (a .odd)) (a .room) (p .0) (p .1) (at-tests .test-wires .ensures) (c .before .enum-told .given .1) (p .2) in
+    (p .0, p .1, k .0, k .1, k .2)
 
 returns-2 : tie.Need-returns-2
 returns-2 c =
@@ -32,12 +33,16 @@ returns-2 c =
     let at-sound = at-write .before .before in
     let at-tests = at-sound .before .before in
     let start = at-tests .before .before .before .before .before in
-    let long = joined-long (start .pre .0) (start .pre .1) (start .args .wires .now) in
-    let e = rw (at-tests .test-join .ensures, ← long) at (at-sound .enum-told .given .1) in
+    let p = start .pre in
+    let wires = lent (start .args .wires .now) (start .args .odd) in
+    let room = start .args .room in
+    let t = at-tests .test-wires .ensures in
+    let q = at-sound .enum-told .given .1 in
     let o = at-write .write-joined .ensures in
-    (rw (e, o .0), rw e (o .1))
+    finishes _ _ _ _ refl (tests-told wires room (p .0) (p .1) t q) (o .0)
+    (record { count = o .0; fits = words-fit wires room (p .0) (p .1) t q; buffer = o .1 })
 
 pub join-accepted-spec : {M : Type 1} → statement M
 join-accepted-spec =
     tie.close
-    (tie.spec test-join-requires (λ c. search needs) returns (λ c. search needs) write-joined-requires (λ c. search needs) returns-2)
+    (tie.spec test-wires-requires (λ c. search needs) returns (λ c. search needs) write-joined-requires (λ c. search needs) returns-2)

@@ -1,7 +1,7 @@
 -- `layout::exit_at` meets its contract. Assumes nothing.
 use mathlib.Core.Path.{sym, _∙_}
 use borrow.Author.Needs.{needs}
-use Rattle.layout.proofs.Places.{exit-one}
+use Rattle.layout.proofs.NodeNumbers.{exit-one}
 use Rattle.layout.proofs.exit_at.Statement.{statement}
 use Rattle.layout.proofs.exit_at.Tie as tie
 

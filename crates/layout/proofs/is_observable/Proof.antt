@@ -1,5 +1,5 @@
 -- `layout::is_observable` meets its contract. Assumes nothing.
-use Rattle.layout.proofs.Places.{header-in, observable-is}
+use Rattle.layout.proofs.NodeNumbers.{header-in, observable-is}
 use borrow.Author.Needs.{needs}
 use Rattle.layout.proofs.is_observable.Statement.{statement}
 use Rattle.layout.proofs.is_observable.Tie as tie

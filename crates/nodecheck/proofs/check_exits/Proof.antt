@@ -4,7 +4,7 @@ use native.Mathlib.Omega.{arith}
 use borrow.Author.Needs.{needs}
 use Rattle.answers.proofs.Tests.{not-sound}
 use Rattle.form.proofs.Verdicts.{exits-inside}
-use Rattle.reader.proofs.Laws.{listOf, placeOf, some-list}
+use Rattle.reader.proofs.Laws.{listOf, positionOf, some-list}
 use Rattle.nodecheck.proofs.Table.{both-sound, bad-broken}
 use Rattle.nodecheck.proofs.check_exits.Statement.{statement}
 use Rattle.nodecheck.proofs.check_exits.Tie as tie
@@ -14,16 +14,16 @@ name-exit-requires c κs =
     let at-e-0 = c .before .before in
     let at-read = at-e-0 .before .before in
     let d = at-read .before .args .due in
-    let v = both-sound _ _ _ _ (sym (at-read .read-exits .ensures (listOf d) (placeOf d) (some-list d)) ∙ at-e-0 .e0 .given .1) in
-    omega (arith, exits-inside (listOf d) _ _ (placeOf d) 0 (v .0), v .1, at-read .before .pre)
+    let v = both-sound _ _ _ _ (sym (at-read .read-exits .ensures (listOf d) (positionOf d) (some-list d)) ∙ at-e-0 .e0 .given .1) in
+    omega (arith, exits-inside (listOf d) _ _ (positionOf d) 0 (v .0), v .1, at-read .before .pre)
 
 name-exit-requires-2 : tie.Need-name-exit-requires-2
 name-exit-requires-2 c κs =
     let at-e-0 = c .before .before .before .before in
     let at-read = at-e-0 .before .before in
     let d = at-read .before .args .due in
-    let v = both-sound _ _ _ _ (sym (at-read .read-exits .ensures (listOf d) (placeOf d) (some-list d)) ∙ at-e-0 .e0 .given .1) in
-    omega (arith, exits-inside (listOf d) _ _ (placeOf d) 1 (v .0), v .2, at-read .before .pre)
+    let v = both-sound _ _ _ _ (sym (at-read .read-exits .ensures (listOf d) (positionOf d) (some-list d)) ∙ at-e-0 .e0 .given .1) in
+    omega (arith, exits-inside (listOf d) _ _ (positionOf d) 1 (v .0), v .2, at-read .before .pre)
 
 returns : tie.Need-returns
 returns c =

@@ -10,7 +10,7 @@ use Rattle.nodecheck.proofs.check_read.Tie as tie
 returns : tie.Need-returns
 returns c = λ ws p e.
     let (h, has, at) = due-word ws p _ _ (sym e ∙ c .before .before .due .given .1) in
-    rw (← at) (c .read-word .ensures ws (rw at h) (rw at has))
+    rw (← at) (c .word-as-read .ensures ws (rw at h) (rw at has))
 
 returns-2 : tie.Need-returns-2
 unfolding readVerdict

@@ -11,7 +11,7 @@ use Rattle.nodecheck.proofs.read_exits.Tie as tie
 returns : tie.Need-returns
 returns c = λ ws p e.
     let (h, has, at) = due-word ws p _ _ (sym e ∙ c .before .before .due .given .1) in
-    rw (← has, ← at) (c .exits-word .ensures ws (rw at h) (rw at has))
+    rw (← has, ← at) (c .word-as-exits .ensures ws (rw at h) (rw at has))
 
 returns-2 : tie.Need-returns-2
 unfolding exitsVerdict exitsTold

@@ -2,30 +2,29 @@
 use mathlib.Core.Path.{sym, _∙_}
 use borrow.Author.Needs.{needs}
 use Rattle.answers.proofs.Calls.{open-refused, open-breaks, open-goes}
-use Rattle.answers.proofs.Answers.{same-answer}
 use Rattle.form.proofs.Checked.{check-accepts, some-inputs}
 use Rattle.opening.proofs.open_list.Statement.{statement}
 use Rattle.opening.proofs.open_list.Tie as tie
 
 check-list-requires : tie.Need-check-list-requires
 check-list-requires c κs =
-    let told = c .before .before .before .check .ensures in
-    some-inputs (check-accepts _ _ _ (sym (same-answer _ _ told) ∙ c .before .c .given .1))
+    let at-c = c .before in
+    some-inputs (check-accepts _ _ _ (sym (at-c .before .before .check-with .ensures) ∙ at-c .c .given .1))
 
 returns : tie.Need-returns
 returns c =
     let at-form = c .before .before .before in
-    let a = sym (same-answer _ _ (at-form .before .before .before .before .check .ensures)) ∙ at-form .before .before .c .given .1 in
-    open-breaks _ _ a (sym (at-form .check-list .ensures) ∙ c .before .rule2 .given .1)
+    let at-c = at-form .before .before in
+    open-breaks _ _ (sym (at-c .before .before .check-with .ensures) ∙ at-c .c .given .1) (sym (at-form .check-list .ensures) ∙ c .before .rule2 .given .1)
 
 returns-2 : tie.Need-returns-2
-returns-2 c = open-refused _ _ (sym (same-answer _ _ (c .before .before .before .check .ensures)) ∙ c .before .rule .given .1)
+returns-2 c = open-refused _ _ (sym (c .before .before .before .check-with .ensures) ∙ c .before .rule .given .1)
 
 returns-3 : tie.Need-returns-3
 returns-3 c =
     let at-form = c .before .before in
-    let a = sym (same-answer _ _ (at-form .before .before .before .before .check .ensures)) ∙ at-form .before .before .c .given .1 in
-    open-goes _ _ a (sym (at-form .check-list .ensures) ∙ c .enum-told .given .1)
+    let at-c = at-form .before .before in
+    open-goes _ _ (sym (at-c .before .before .check-with .ensures) ∙ at-c .c .given .1) (sym (at-form .check-list .ensures) ∙ c .enum-told .given .1)
 
 pub open-list-spec : {M : Type 1} → statement M
 open-list-spec =

@@ -5,7 +5,7 @@ use mathlib.Core.Path.{sym}
 use native.Mathlib.Omega.{arith}
 use borrow.Author.Needs.{needs}
 use Rattle.layout.specs.Layout.{size}
-use Rattle.layout.proofs.Places.{walkable, few-nodes, some-node, node-inside, read-below, place-below}
+use Rattle.layout.proofs.NodeNumbers.{walkable, few-nodes, some-node, node-inside, read-below, node-number-below}
 use Rattle.value.specs.Settings.{faulty}
 use Rattle.value.specs.Run.{run}
 use Rattle.value.proofs.Run.{node-ends, node-goes}
@@ -66,7 +66,7 @@ pub +graph-value+node-value-spec : {M : Type 1} → statement M
 )
     (graph-value-at t)
     graph-value.Post
-    -- graph-value-add-place
+    -- graph-value-add-site
     (λ c.
     let start = c .before .before .before .before .before .before in
     let p = start .pre .1 in
@@ -176,7 +176,7 @@ pub +graph-value+node-value-spec : {M : Type 1} → statement M
     let at-first-node = c .before in
     let start = at-first-node .before .before .before .before .before .before in
     let p = start .pre .1 in
-    omega (arith, place-below (p .0) (p .2) (p .3) (at-first-node .first-node .ensures), p .4 .long))
+    omega (arith, node-number-below (p .0) (p .2) (p .3) (at-first-node .first-node .ensures), p .4 .long))
     -- node-value-same-length
     (λ c. search needs)
     -- node-value-returns
@@ -224,7 +224,7 @@ pub +graph-value+node-value-spec : {M : Type 1} → statement M
     let at-first-node = at-graph-value .before .before .before .before .before .before in
     let start = at-first-node .before .before .before .before .before .before in
     let p = start .pre .1 in
-    omega (arith, place-below (p .0) (p .2) (p .3) (at-first-node .first-node .ensures), at-graph-value .graph-value .ensures .saved .long))
+    omega (arith, node-number-below (p .0) (p .2) (p .3) (at-first-node .first-node .ensures), at-graph-value .graph-value .ensures .saved .long))
     -- node-value-cast-result
     (λ c. search needs)
     -- node-value-same-length-2
@@ -270,7 +270,7 @@ pub +graph-value+node-value-spec : {M : Type 1} → statement M
     let at-first-node = at-saved .before .before .before .before .before .before .before in
     let start = at-first-node .before .before .before .before .before .before in
     let p = start .pre .1 in
-    omega (arith, place-below (p .0) (p .2) (p .3) (at-first-node .first-node .ensures), at-node-value .node-value .ensures .saved .long))
+    omega (arith, node-number-below (p .0) (p .2) (p .3) (at-first-node .first-node .ensures), at-node-value .node-value .ensures .saved .long))
     -- node-value-same-length-3
     (λ c. search needs)
     -- node-value-returns-3

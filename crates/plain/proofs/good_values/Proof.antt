@@ -1,5 +1,6 @@
 -- `plain::good_values` meets its contract. Assumes nothing.
 use borrow.Author.Needs.{needs}
+use Rattle.answers.specs.Calls.{whole}
 use Rattle.plain.proofs.Lists.{none-good}
 use Rattle.plain.proofs.good_values.Statement.{statement}
 use Rattle.plain.proofs.good_values.Tie as tie
@@ -9,8 +10,7 @@ returns c =
     let at-call = c .before .before in
     let a = at-call .before .before .before .before .before .before .args in
     let e = at-call .fault-values .ensures in
-    let n = none-good (a .card .now) (a .vector .now) (a .values .now) in
-    (rw (n .0) at (e .0), rw (n .1) at (e .1))
+    rw (none-good (whole (a .card .now)) (whole (a .vector .now)) _) at e
 
 pub good-values-spec : {M : Type 1} → statement M
 good-values-spec = tie.close (tie.spec (λ c. search needs) (λ c. search needs) (λ c κs. search needs) (λ c. search needs) returns)

@@ -1,4 +1,4 @@
--- `plain::work_out` meets its contract. The invariant: the values of the graphs below g are in, and each word below 2 in `saved` is its place's value.
+-- `plain::work_out` meets its contract. The invariant: the values of the graphs below g are in, and each word below 2 in `saved` is its site's value.
 -- Assumes nothing.
 use Prim.Native.Nat.{_≤_, _-_}
 use mathlib.Core.Path.{_≡_, refl, sym}
@@ -7,7 +7,7 @@ use lib.ListN.{length, length-set}
 use Rattle.lists.specs.Tables.{over}
 use Rattle.lists.proofs.Tables.{over-none, over-store}
 use Rattle.layout.specs.Tables.{Ready}
-use Rattle.layout.proofs.Places.{made-ready}
+use Rattle.layout.proofs.NodeNumbers.{made-ready}
 use Rattle.testvectors.proofs.Laws.{wide}
 use Rattle.value.specs.Settings.{faulty}
 use Rattle.value.specs.Values.{value}

@@ -10,19 +10,13 @@ use native.Mathlib.Omega.{arith}
 slice-aggregate-report-words : tie.Need-slice-aggregate-report-words
 slice-aggregate-report-words c = sym (length-take-le _ _ (omega arith))
 
-slice-aggregate-report-words-2 : tie.Need-slice-aggregate-report-words-2
-slice-aggregate-report-words-2 c = sym (length-take-le _ _ (omega arith))
-
 returns : tie.Need-returns
 returns c =
-    let at-words-of-2 = c .before .before .before .before .before .before .before in
-    let x = at-words-of-2 .before .before .before .before .words-of .ensures in
-    let y = at-words-of-2 .words-of2 .ensures in
-    rw (← words-front _ _ _ _ (x .0) (x .1), ← words-front _ _ _ _ (y .0) (y .1)) (c .before .before .report-words .ensures)
+    let x = c .before .before .before .before .before .before .words-of .ensures in
+    rw (← words-front _ _ _ _ (x .0) (x .1)) (c .before .before .report-words .ensures)
 
 pub report-parts-spec : {M : Type 1} → statement M
 report-parts-spec =
     tie.close
-    (tie.spec (λ c κs. search needs) (λ c. search needs) (λ c κs. search needs) (λ c κs. search needs) (λ c. search needs) (λ c κs. search needs)
-    (λ c. search needs) slice-aggregate-report-words (λ c. search needs) slice-aggregate-report-words-2 (λ c κs. search needs) (λ c. search needs)
-    returns)
+    (tie.spec (λ c κs. search needs) (λ c. search needs) (λ c κs. search needs) (λ c. search needs) slice-aggregate-report-words (λ c κs. search needs)
+    (λ c. search needs) returns)

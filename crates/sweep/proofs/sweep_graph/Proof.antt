@@ -1,5 +1,5 @@
 -- `sweep::sweep_graph` meets its contract. Assumes nothing.
-use Rattle.layout.proofs.Places.{walkable, first-is, size-asks, size-told}
+use Rattle.layout.proofs.NodeNumbers.{walkable, first-is, size-asks, size-told}
 use Rattle.sweep.proofs.Laws.{input-stored, entrance-inside, output-stored}
 use borrow.Author.Needs.{needs}
 use Rattle.sweep.proofs.sweep_graph.Statement.{statement}

@@ -1,6 +1,6 @@
 -- `sweep::sweep_node` meets its contract. Assumes nothing.
 use native.Mathlib.Omega.{arith}
-use Rattle.layout.proofs.Places.{own-ready, own-first, walkable, node-inside, read-below, place-below, exit-below}
+use Rattle.layout.proofs.NodeNumbers.{own-ready, own-first, walkable, node-inside, read-below, node-number-below, exit-below}
 use Rattle.sweep.proofs.Laws.{node-stored}
 use borrow.Author.Needs.{needs}
 use Rattle.sweep.proofs.sweep_node.Statement.{statement}
@@ -10,7 +10,7 @@ add-j : tie.Need-add-j
 add-j c =
     let start = c .before .before in
     let f = own-first (start .pre .0) (start .pre .2) (start .pre .1) in
-    omega (arith, place-below (own-ready (start .pre .0)) (start .pre .2) (start .pre .3) f, start .pre .0 .few-nodes)
+    omega (arith, node-number-below (own-ready (start .pre .0)) (start .pre .2) (start .pre .3) f, start .pre .0 .few-nodes)
 
 decision-requires : tie.Need-decision-requires
 decision-requires c κs =
@@ -36,7 +36,7 @@ put-requires : tie.Need-put-requires
 put-requires c κs =
     let start = c .before .before .before .before .before .before .before .before in
     let f = own-first (start .pre .0) (start .pre .2) (start .pre .1) in
-    omega (arith, place-below (own-ready (start .pre .0)) (start .pre .2) (start .pre .3) f, start .pre .4)
+    omega (arith, node-number-below (own-ready (start .pre .0)) (start .pre .2) (start .pre .3) f, start .pre .4)
 
 returns : tie.Need-returns
 returns c =

@@ -1,4 +1,4 @@
--- `value::set_at` meets its contract. The invariant: the faults below i hold another place, so that those from i on give what all do. Assumes nothing.
+-- `value::set_at` meets its contract. The invariant: the faults below i hold another site, so that those from i on give what all do. Assumes nothing.
 use Prim.Native.Nat.{_-_}
 use mathlib.Core.Path.{_≡_, refl, sym, _∙_}
 use native.Mathlib.Omega.{arith}
@@ -10,10 +10,10 @@ use Rattle.value.proofs.set_at.Statement.{statement}
 use Rattle.value.proofs.set_at.Tie as tie
 
 abbrev Inv-loop : tie.InvT-loop
-Inv-loop faults place v i₀ i = faulty faults place v ≡ faulty (drop i faults) place v
+Inv-loop faults site v i₀ i = faulty faults site v ≡ faulty (drop i faults) site v
 
 abbrev μ-loop : tie.MeasureT-loop
-μ-loop faults place v i₀ i = length faults - i
+μ-loop faults site v i₀ i = length faults - i
 
 cast-f : tie.Need-cast-f Inv-loop μ-loop
 cast-f c = omega (arith, c .shared-slice-known .given (c .before .before .loop .i))

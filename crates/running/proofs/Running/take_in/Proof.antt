@@ -9,7 +9,7 @@ returns : tie.Need-returns
 returns c =
     let at-take = c .before .before .before .before in
     let start = at-take .before .before .before .before .before .before .before in
-    let took = at-take .take-places in
+    let took = at-take .take-sites in
     let kept = took .kept .1 .1 .1 .1 .1 in
     (refl, took .ensures .1, counted-next (start .pre .4) (took .ensures .1) (kept .0) (kept .1 .0) (took .ensures .0))
 

@@ -1,3 +1,0 @@
--- Where a broken test of a call stands.
-mod Laws
-pub mod Old

@@ -1,3 +1,0 @@
--- The check's own test.
-mod Laws
-pub mod Old

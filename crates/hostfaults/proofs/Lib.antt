@@ -1,0 +1,2 @@
+-- A list of faults in bytes.
+pub mod Laws

@@ -1,3 +1,0 @@
-pub mod Calls
-pub mod Done
-pub mod Tested

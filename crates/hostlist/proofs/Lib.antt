@@ -1,2 +1,0 @@
--- Blocks of vectors of a list in bytes.
-mod Gradings
