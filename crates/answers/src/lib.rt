@@ -2,6 +2,7 @@
 // how any call goes.
 ghost use mathlib.Core.Path.{_≡_};
 ghost use Rattle.answers.specs.Answers.{numberOf};
+ghost use Rattle.answers.specs.Ends.{endRefused};
 
 // The limits of a card and of a list of vectors; specs/Limits.antt has the same.
 pub const MAX_GRAPHS: usize = 1024;
@@ -97,5 +98,16 @@ pub fn rule_number(rule: Rule) -> u32
         Rule::GateForm => 15,
         Rule::LeadNotEarlier => 16,
         Rule::FaultListForm => 17,
+    }
+}
+
+// How a worker ends that is refused: it wrote nothing.
+pub fn refused(rule: Rule, position: usize) -> Ended
+    ensures { λ r. ⌜ r ≡ endRefused rule position ⌝ }
+{
+    Ended {
+        reply: Reply::Refused(rule, position),
+        words: 0,
+        more: 0,
     }
 }

@@ -243,18 +243,10 @@ pub fn check_counts(card: &[u32], extra: usize, room: usize, numbers: &mut [u32]
     ensures { λ r. ⌜ EndsAs (checkOutcome (lent (now (card .entry)) extra) room) room r (now (numbers .entry)) (now (numbers .exit)) ⌝ }
 {
     match check_with(card, extra) {
-        Answer::Refused(rule, position) => Ended {
-            reply: Reply::Refused(rule, position),
-            words: 0,
-            more: 0,
-        },
+        Answer::Refused(rule, position) => answers::refused(rule, position),
         Answer::Accepted(c) => {
             if room < 5 {
-                return Ended {
-                    reply: Reply::Refused(Rule::BufferTooShort, 0),
-                    words: 0,
-                    more: 0,
-                };
+                return answers::refused(Rule::BufferTooShort, 0);
             }
             put_counts(c, numbers);
             Ended {

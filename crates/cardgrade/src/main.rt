@@ -5,9 +5,12 @@
 ghost use mathlib.Core.Path.{_≡_};
 ghost use Prim.Native.Nat.{_≤_};
 ghost use lib.ListN.{length};
+ghost use Rattle.report.specs.Report.{maxInput, maxText};
 ghost use Rattle.cardgrade.specs.Reading.{bytesOf};
 use libc::STDIN_FILENO;
 use libc::STDOUT_FILENO;
+use report::MAX_INPUT;
+use report::MAX_TEXT;
 
 // What reading came to: so many bytes, as many as were wanted or all that there were; or a read failed.
 enum Reading {
@@ -16,16 +19,16 @@ enum Reading {
 }
 
 // Room for all the bytes that can decide, and for the longest text.
-fn input_room() -> [u8; 102408]
-    ensures { λ r. ⌜ 102408 ≡ length r ⌝ }
+fn input_room() -> [u8; MAX_INPUT]
+    ensures { λ r. ⌜ maxInput ≡ length r ⌝ }
 {
-    [0u8; 102408]
+    [0u8; MAX_INPUT]
 }
 
-fn text_room() -> [u8; 286880]
-    ensures { λ r. ⌜ 286880 ≡ length r ⌝ }
+fn text_room() -> [u8; MAX_TEXT]
+    ensures { λ r. ⌜ maxText ≡ length r ⌝ }
 {
-    [0u8; 286880]
+    [0u8; MAX_TEXT]
 }
 
 // One read of some bytes, none at the end of the input. A read that a signal interrupts is tried again, a hundred times in all.
@@ -68,8 +71,8 @@ fn read_on(input: &mut [u8], from: usize, wanted: usize) -> Reading
 
 // Reads the word count, and then the bytes that it makes wanted.
 fn read_input(input: &mut [u8]) -> Reading
-    requires { ⌜ 102408 ≤ length (now input) ⌝ }
-    ensures { λ r. ⌜ bytesOf r ≤ 102408 ⌝ }
+    requires { ⌜ maxInput ≤ length (now input) ⌝ }
+    ensures { λ r. ⌜ bytesOf r ≤ maxInput ⌝ }
 {
     match read_on(input, 0, 4) {
         Reading::Failed => Reading::Failed,

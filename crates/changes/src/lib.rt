@@ -104,18 +104,10 @@ pub fn change_list_with(
         room r (now (list .entry)) (now (list .exit)) ⌝ }
 {
     match opening::open_vector(card, extra, vector, left) {
-        Answer::Refused(rule, position) => Ended {
-            reply: Reply::Refused(rule, position),
-            words: 0,
-            more: 0,
-        },
+        Answer::Refused(rule, position) => answers::refused(rule, position),
         Answer::Accepted(c) => {
             if let Verdict::Broken(rule, position) = test_change(c, graph, room) {
-                return Ended {
-                    reply: Reply::Refused(rule, position),
-                    words: 0,
-                    more: 0,
-                };
+                return answers::refused(rule, position);
             }
             let n = work_out_changes(card, c, vector, graph as usize, list);
             Ended {
@@ -203,18 +195,10 @@ pub fn critical_nodes_with(
         room r (now (nodes .entry)) (now (nodes .exit)) ⌝ }
 {
     match opening::open_vector(card, extra, vector, left) {
-        Answer::Refused(rule, position) => Ended {
-            reply: Reply::Refused(rule, position),
-            words: 0,
-            more: 0,
-        },
+        Answer::Refused(rule, position) => answers::refused(rule, position),
         Answer::Accepted(c) => {
             if let Verdict::Broken(rule, position) = test_critical(c, room) {
-                return Ended {
-                    reply: Reply::Refused(rule, position),
-                    words: 0,
-                    more: 0,
-                };
+                return answers::refused(rule, position);
             }
             work_out_critical(card, c, vector, nodes);
             Ended {

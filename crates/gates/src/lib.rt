@@ -115,18 +115,10 @@ pub fn to_card_with(gates: &[u32], extra: usize, room: usize, card: &mut [u32]) 
     ensures { λ r. ⌜ EndsAs (toCardOutcome (lent (now (gates .entry)) extra) room) room r (now (card .entry)) (now (card .exit)) ⌝ }
 {
     match gatecheck::check_with(gates, extra) {
-        Answer::Refused(rule, position) => Ended {
-            reply: Reply::Refused(rule, position),
-            words: 0,
-            more: 0,
-        },
+        Answer::Refused(rule, position) => answers::refused(rule, position),
         Answer::Accepted(c) => {
             if room < c.graphs + 2 * c.nodes {
-                return Ended {
-                    reply: Reply::Refused(Rule::BufferTooShort, 0),
-                    words: 0,
-                    more: 0,
-                };
+                return answers::refused(Rule::BufferTooShort, 0);
             }
             let n = write_card(gates, c, card);
             Ended {

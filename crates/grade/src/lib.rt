@@ -113,18 +113,10 @@ pub fn grade_with(
         (now (marks .entry)) (now (tallies .entry)) (now (marks .exit)) (now (tallies .exit)) ⌝ }
 {
     match opening::open_list(card, extra, words, bytes) {
-        Answer::Refused(rule, position) => Ended {
-            reply: Reply::Refused(rule, position),
-            words: 0,
-            more: 0,
-        },
+        Answer::Refused(rule, position) => answers::refused(rule, position),
         Answer::Accepted(c) => {
             if let Verdict::Broken(rule, position) = test_grade(c, room, more) {
-                return Ended {
-                    reply: Reply::Refused(rule, position),
-                    words: 0,
-                    more: 0,
-                };
+                return answers::refused(rule, position);
             }
             let tables = cardtables::make_tables(card, c);
             let marked = grade_list(card, c, &tables, words, bytes, marks, tallies);

@@ -283,11 +283,7 @@ fn join_accepted(
         (now (card .entry)) (now (card .exit)) ⌝ }
 {
     if let Verdict::Broken(rule, position) = test_wires(ca, cb, wires, odd, room) {
-        return Ended {
-            reply: Reply::Refused(rule, position),
-            words: 0,
-            more: 0,
-        };
+        return answers::refused(rule, position);
     }
     let n = write_joined(a, ca, b, cb, wires, card);
     Ended {
@@ -314,19 +310,11 @@ pub fn join_with(
         (now (card .entry)) (now (card .exit)) ⌝ }
 {
     match cardcheck::check_with(a, extra) {
-        Answer::Refused(rule, position) => Ended {
-            reply: Reply::Refused(rule, position),
-            words: 0,
-            more: 0,
-        },
+        Answer::Refused(rule, position) => answers::refused(rule, position),
         Answer::Accepted(ca) => match cardcheck::check_with(b, left) {
             Answer::Refused(rule, position) => {
                 let at = a.len() + position;
-                Ended {
-                    reply: Reply::Refused(rule, at),
-                    words: 0,
-                    more: 0,
-                }
+                answers::refused(rule, at)
             }
             Answer::Accepted(cb) => join_accepted(a, ca, b, cb, wires, odd, room, card),
         },

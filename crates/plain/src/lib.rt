@@ -123,18 +123,10 @@ pub fn fault_values_with(
         room r (now (values .entry)) (now (values .exit)) ⌝ }
 {
     match opening::open_vector(card, extra, vector, left) {
-        Answer::Refused(rule, position) => Ended {
-            reply: Reply::Refused(rule, position),
-            words: 0,
-            more: 0,
-        },
+        Answer::Refused(rule, position) => answers::refused(rule, position),
         Answer::Accepted(c) => {
             if let Verdict::Broken(rule, position) = faultlist::test_faults(c, faults, odd, room) {
-                return Ended {
-                    reply: Reply::Refused(rule, position),
-                    words: 0,
-                    more: 0,
-                };
+                return answers::refused(rule, position);
             }
             work_out(card, c, vector, faults, values);
             Ended {

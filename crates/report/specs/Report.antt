@@ -7,7 +7,7 @@ use lib.ListN.{length, take, drop}
 use lib.Dec.{ltb, eqb}
 use Rattle.lists.specs.Counting.{choose}
 use Rattle.word32.specs.Bytes.{wordAt, wordsOf}
-use Rattle.answers.specs.Limits.{maxWords}
+use Rattle.answers.specs.Limits.{maxWords, maxFaults}
 use Rattle.answers.specs.declared.Counts.{Counts}
 use Rattle.answers.specs.declared.Verdict.{Verdict}
 use Rattle.answers.specs.declared.Verdict.the-variants.{Sound, Broken}
@@ -19,6 +19,16 @@ use Rattle.cardtables.specs.Stems.{total}
 use Rattle.testvectors.specs.Vectors.{listVerdict}
 use Rattle.detect.specs.Grading.{mark, tally, marked}
 use Rattle.report.specs.Text.{either, shortLine, longLine, refusedLine, gradingText}
+
+-- The most vector words that are taken, the most bytes that can decide, and the length of the longest text.
+abbrev pub maxVectorWords : ℕ
+maxVectorWords = 16384
+
+abbrev pub maxInput : ℕ
+maxInput = 4 + 4 * maxWords + 4 * (maxVectorWords + 1)
+
+abbrev pub maxText : ℕ
+maxText = 28 * maxFaults + 160
 
 -- A text, or the line of the refusal that stands in its way. `numberOf` gives a rule its number: that of a list's rule is 10.
 abbrev pub unlessBroken : Verdict → List ℕ → List ℕ
@@ -52,11 +62,11 @@ textOf b =
     either (ltb (length b) 4) shortLine
     (either (ltb maxWords (wordCount b)) (refusedLine 1 0)
     (either (ltb (length b) (4 + 4 * wordCount b)) shortLine
-    (either (ltb 16384 (length (vectorBytes b) / 4)) longLine
+    (either (ltb maxVectorWords (length (vectorBytes b) / 4)) longLine
     (either (not (eqb (length (vectorBytes b) % 4) 0)) shortLine
     (gradedText (wordsOf (cardBytes b)) (wordsOf (vectorBytes b)))))))
 
 -- HOW MANY BYTES DECIDE, given the first four: no more after a count that is missing or over 9,216, else the card and one vector word too many.
 -- The law `text-front` says that the text of these bytes is the text of all.
 unfoldable pub bytesWanted : List ℕ → ℕ
-bytesWanted b = choose (ltb (length b) 4 || ltb maxWords (wordCount b)) 4 (4 + 4 * wordCount b + 65540)
+bytesWanted b = choose (ltb (length b) 4 || ltb maxWords (wordCount b)) 4 (4 + 4 * wordCount b + 4 * (maxVectorWords + 1))

@@ -11,11 +11,22 @@ ghost use Rattle.testvectors.specs.Lists.{listWords};
 ghost use Rattle.detect.specs.Grading.{mark, tally, marked};
 ghost use Rattle.grade.specs.Graded.{CardWithList};
 ghost use Rattle.report.specs.Text.{decimal, field, markField, countFields, cardLine, faultLine, faultLines, line, gradingText, refusedLine};
-ghost use Rattle.report.specs.Report.{wordCount, gradedText, textOf, bytesWanted};
+ghost use Rattle.report.specs.Report.{maxInput, maxText, wordCount, gradedText, textOf, bytesWanted};
 ghost use Rattle.report.specs.Puts.{Puts};
 use answers::Answer;
 use answers::Counts;
+use answers::MAX_FAULTS;
 use answers::MAX_WORDS;
+
+// The most vector words that are taken, the most bytes after a card that can decide, the most bytes in all, and the length of the longest text;
+// specs/Report.antt has the same.
+const MAX_VECTOR_WORDS: usize = 16384;
+
+const MAX_VECTOR_BYTES: usize = 4 * (MAX_VECTOR_WORDS + 1);
+
+pub const MAX_INPUT: usize = 4 + 4 * MAX_WORDS + MAX_VECTOR_BYTES;
+
+pub const MAX_TEXT: usize = 28 * MAX_FAULTS + 160;
 
 // Bytes go to a position of the buffer; the result is the position after them.
 fn put(out: &mut [u8], at: usize, bytes: &[u8]) -> usize
@@ -156,7 +167,7 @@ fn put_grading(
     marked: usize,
     total: usize,
 ) -> usize
-    requires { ⌜ (286880 ≤ length (now out)) × (c .faults ≤ maxFaults) × (c .faults ≤ length (now marks)) × (c .faults ≤ length (now tallies)) ⌝ }
+    requires { ⌜ (maxText ≤ length (now out)) × (c .faults ≤ maxFaults) × (c .faults ≤ length (now marks)) × (c .faults ≤ length (now tallies)) ⌝ }
     ensures { λ r. ⌜ Puts (now (out .entry)) 0 (gradingText c (λ f. getD (now (marks .entry)) f 0) (λ f. getD (now (tallies .entry)) f 0) marked total) r (now (out .exit)) ⌝ }
 {
     let after_card = put_card(out, c);
@@ -166,7 +177,7 @@ fn put_grading(
 
 // The text for an accepted card and a list of vectors.
 fn report_accepted(card: &[u32], c: Counts, words: &[u32], bytes: &[u8], out: &mut [u8]) -> usize
-    requires { ⌜ CardWithList (now card) c (listWords (now words) (now bytes)) × (286880 ≤ length (now out)) ⌝ }
+    requires { ⌜ CardWithList (now card) c (listWords (now words) (now bytes)) × (maxText ≤ length (now out)) ⌝ }
     ensures { λ r. ⌜ Puts (now (out .entry)) 0 (gradingText c (mark (now (card .entry)) c (listWords (now (words .entry)) (now (bytes .entry))))
         (tally (now (card .entry)) c (listWords (now (words .entry)) (now (bytes .entry)))) (marked (now (card .entry)) c (listWords (now (words .entry)) (now (bytes .entry))))
         (total (now (card .entry)) c)) r (now (out .exit)) ⌝ }
@@ -181,7 +192,7 @@ fn report_accepted(card: &[u32], c: Counts, words: &[u32], bytes: &[u8], out: &m
 
 // The text for a card and the bytes of vector words.
 fn report_words(card: &[u32], vectors: &[u8], out: &mut [u8]) -> usize
-    requires { ⌜ (length (now vectors) % 4 ≡ 0) × (286880 ≤ length (now out)) ⌝ }
+    requires { ⌜ (length (now vectors) % 4 ≡ 0) × (maxText ≤ length (now out)) ⌝ }
     ensures { λ r. ⌜ Puts (now (out .entry)) 0 (gradedText (now (card .entry)) (wordsOf (now (vectors .entry)))) r (now (out .exit)) ⌝ }
 {
     let none = &card[..0];
@@ -193,7 +204,7 @@ fn report_words(card: &[u32], vectors: &[u8], out: &mut [u8]) -> usize
 
 // The text for the bytes of a card and of vector words.
 fn report_parts(card: &[u8], vectors: &[u8], out: &mut [u8]) -> usize
-    requires { ⌜ (length (now card) / 4 ≤ maxWords) × (length (now vectors) % 4 ≡ 0) × (286880 ≤ length (now out)) ⌝ }
+    requires { ⌜ (length (now card) / 4 ≤ maxWords) × (length (now vectors) % 4 ≡ 0) × (maxText ≤ length (now out)) ⌝ }
     ensures { λ r. ⌜ Puts (now (out .entry)) 0 (gradedText (wordsOf (now (card .entry))) (wordsOf (now (vectors .entry)))) r (now (out .exit)) ⌝ }
 {
     let mut card_words = layout::card_table();
@@ -203,7 +214,7 @@ fn report_parts(card: &[u8], vectors: &[u8], out: &mut [u8]) -> usize
 
 // The text for all the bytes read, given their word count.
 fn report_counted(input: &[u8], n: usize, out: &mut [u8]) -> usize
-    requires { ⌜ (4 ≤ length (now input)) × (n ≡ wordCount (now input)) × (286880 ≤ length (now out)) ⌝ }
+    requires { ⌜ (4 ≤ length (now input)) × (n ≡ wordCount (now input)) × (maxText ≤ length (now out)) ⌝ }
     ensures { λ r. ⌜ Puts (now (out .entry)) 0 (textOf (now (input .entry))) r (now (out .exit)) ⌝ }
 {
     if MAX_WORDS < n {
@@ -214,7 +225,7 @@ fn report_counted(input: &[u8], n: usize, out: &mut [u8]) -> usize
         return put(out, 0, b"short\n");
     }
     let rest = input.len() - start;
-    if 16384 < rest / 4 {
+    if MAX_VECTOR_WORDS < rest / 4 {
         return put(out, 0, b"long\n");
     }
     if rest % 4 != 0 {
@@ -225,7 +236,7 @@ fn report_counted(input: &[u8], n: usize, out: &mut [u8]) -> usize
 
 // The text for the bytes read stands in the front of the buffer, whose other bytes stay; the result is its length.
 pub fn report(input: &[u8], out: &mut [u8]) -> usize
-    requires { ⌜ 286880 ≤ length (now out) ⌝ }
+    requires { ⌜ maxText ≤ length (now out) ⌝ }
     ensures { λ r. ⌜ (r ≡ length (textOf (now (input .entry)))) × (now (out .exit) ≡ front (textOf (now (input .entry))) (now (out .entry)))
         × (r ≤ length (now (out .exit))) ⌝ }
 {
@@ -237,7 +248,7 @@ pub fn report(input: &[u8], out: &mut [u8]) -> usize
 
 // How many bytes decide, given the first four or, where there are fewer, all.
 pub fn wanted(input: &[u8]) -> usize
-    ensures { λ r. ⌜ (r ≡ bytesWanted (now (input .entry))) × (4 ≤ r) × (r ≤ 102408) ⌝ }
+    ensures { λ r. ⌜ (r ≡ bytesWanted (now (input .entry))) × (4 ≤ r) × (r ≤ maxInput) ⌝ }
 {
     if input.len() < 4 {
         return 4;
@@ -246,5 +257,5 @@ pub fn wanted(input: &[u8]) -> usize
     if MAX_WORDS < n {
         return 4;
     }
-    4 + 4 * n + 65540
+    4 + 4 * n + MAX_VECTOR_BYTES
 }

@@ -11,10 +11,12 @@ use Rattle.cardcheck.proofs.check_counts.Tie as tie
 
 returns : tie.Need-returns
 returns c =
-    let at-c = c .before .before in
+    let at-then = c .before in
+    let at-c = at-then .before .before in
     let at-check = at-c .before .before in
     let room = at-check .before .before .before .args .room in
-    breaks _ (checkWork room) _ _ (sym (at-check .check-with .ensures) ∙ at-c .c .given .1) (rw (lt-ltb room 5 (c .if1 .taken)))
+    rw (c .refused2 .ensures)
+    (breaks _ (checkWork room) _ _ (sym (at-check .check-with .ensures) ∙ at-c .c .given .1) (rw (lt-ltb room 5 (at-then .if1 .taken))))
 
 put-counts-requires : tie.Need-put-counts-requires
 put-counts-requires c κs =
@@ -25,8 +27,9 @@ put-counts-requires c κs =
 
 returns-2 : tie.Need-returns-2
 returns-2 c =
-    let at-check = c .before .before .before in
-    stops _ (checkWork (at-check .before .before .before .args .room)) _ _ (sym (at-check .check-with .ensures) ∙ c .before .rule .given .1)
+    let at-check = c .before .before .before .before in
+    rw (c .refused .ensures)
+    (stops _ (checkWork (at-check .before .before .before .args .room)) _ _ (sym (at-check .check-with .ensures) ∙ c .before .before .rule .given .1))
 
 returns-3 : tie.Need-returns-3
 returns-3 c =
@@ -41,4 +44,4 @@ returns-3 c =
 pub check-counts-spec : {M : Type 1} → statement M
 check-counts-spec =
     tie.close
-    (tie.spec (λ c κs. search needs) (λ c. search needs) (λ c. search needs) returns put-counts-requires returns-2 (λ c. search needs) returns-3)
+    (tie.spec (λ c κs. search needs) (λ c. search needs) (λ c κs. search needs) (λ c. search needs) (λ c κs. search needs) returns put-counts-requires returns-2 (λ c. search needs) returns-3)

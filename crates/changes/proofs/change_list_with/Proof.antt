@@ -11,10 +11,10 @@ use Rattle.changes.proofs.change_list_with.Tie as tie
 
 returns : tie.Need-returns
 returns c =
-    let at-tests = c .before .before .before in
+    let at-tests = c .before .before .before .before in
     let at-c = at-tests .before .before in
-    breaks _ (changeWork _ _ _ _) _ _ (sym (at-c .before .before .open-vector .ensures) ∙ at-c .c .given .1)
-    (sym (at-tests .test-change .ensures) ∙ c .before .rule2 .given .1)
+    rw (c .refused2 .ensures) (breaks _ (changeWork _ _ _ _) _ _ (sym (at-c .before .before .open-vector .ensures) ∙ at-c .c .given .1)
+    (sym (at-tests .test-change .ensures) ∙ c .before .before .rule2 .given .1))
 
 work-out-changes-requires : tie.Need-work-out-changes-requires
 work-out-changes-requires c κs =
@@ -27,7 +27,7 @@ work-out-changes-requires c κs =
     (w .0, w .1, p .0, omega (arith, p .1, w .0 .few-graphs, at-open .before .before .before .before .pre))
 
 returns-2 : tie.Need-returns-2
-returns-2 c = stops _ (changeWork _ _ _ _) _ _ (sym (c .before .before .before .open-vector .ensures) ∙ c .before .rule .given .1)
+returns-2 c = rw (c .refused .ensures) (stops _ (changeWork _ _ _ _) _ _ (sym (c .before .before .before .before .open-vector .ensures) ∙ c .before .before .rule .given .1))
 
 returns-3 : tie.Need-returns-3
 returns-3 c =
@@ -42,4 +42,4 @@ returns-3 c =
 pub change-list-with-spec : {M : Type 1} → statement M
 change-list-with-spec =
     tie.close
-    (tie.spec (λ c κs. search needs) (λ c. search needs) (λ c. search needs) (λ c κs. search needs) (λ c. search needs) returns (λ c. search needs) work-out-changes-requires returns-2 (λ c. search needs) returns-3)
+    (tie.spec (λ c κs. search needs) (λ c. search needs) (λ c κs. search needs) (λ c. search needs) (λ c κs. search needs) (λ c. search needs) (λ c κs. search needs) returns (λ c. search needs) work-out-changes-requires returns-2 (λ c. search needs) returns-3)

@@ -11,10 +11,10 @@ use Rattle.changes.proofs.critical_nodes_with.Tie as tie
 
 returns : tie.Need-returns
 returns c =
-    let at-tests = c .before .before .before in
+    let at-tests = c .before .before .before .before in
     let at-c = at-tests .before .before in
-    breaks _ (criticalWork _ _ _) _ _ (sym (at-c .before .before .open-vector .ensures) ∙ at-c .c .given .1)
-    (sym (at-tests .test-critical .ensures) ∙ c .before .rule2 .given .1)
+    rw (c .refused2 .ensures) (breaks _ (criticalWork _ _ _) _ _ (sym (at-c .before .before .open-vector .ensures) ∙ at-c .c .given .1)
+    (sym (at-tests .test-critical .ensures) ∙ c .before .before .rule2 .given .1))
 
 work-out-critical-requires : tie.Need-work-out-critical-requires
 work-out-critical-requires c κs =
@@ -27,7 +27,7 @@ work-out-critical-requires c κs =
     (w .0, w .1, omega (arith, p, w .0 .few-nodes, at-open .before .before .before .before .pre))
 
 returns-2 : tie.Need-returns-2
-returns-2 c = stops _ (criticalWork _ _ _) _ _ (sym (c .before .before .before .open-vector .ensures) ∙ c .before .rule .given .1)
+returns-2 c = rw (c .refused .ensures) (stops _ (criticalWork _ _ _) _ _ (sym (c .before .before .before .before .open-vector .ensures) ∙ c .before .before .rule .given .1))
 
 returns-3 : tie.Need-returns-3
 returns-3 c =
@@ -42,4 +42,4 @@ returns-3 c =
 pub critical-nodes-with-spec : {M : Type 1} → statement M
 critical-nodes-with-spec =
     tie.close
-    (tie.spec (λ c κs. search needs) (λ c. search needs) (λ c. search needs) (λ c κs. search needs) (λ c. search needs) returns (λ c. search needs) work-out-critical-requires returns-2 (λ c. search needs) returns-3)
+    (tie.spec (λ c κs. search needs) (λ c. search needs) (λ c κs. search needs) (λ c. search needs) (λ c κs. search needs) (λ c. search needs) (λ c κs. search needs) returns (λ c. search needs) work-out-critical-requires returns-2 (λ c. search needs) returns-3)

@@ -22,9 +22,10 @@ add-if1 c =
 
 returns : tie.Need-returns
 returns c =
-    let at-c = c .before .before .before .before in
+    let at-then = c .before in
+    let at-c = at-then .before .before .before .before in
     let e = sym (at-c .before .before .check-with .ensures) ∙ at-c .c .given .1 in
-    breaks _ _ _ _ e (rw (card-long (gates-check-accepts _ _ e), lt-ltb _ _ (c .if1 .taken)))
+    rw (c .refused2 .ensures) (breaks _ _ _ _ e (rw (card-long (gates-check-accepts _ _ e), lt-ltb _ _ (at-then .if1 .taken))))
 
 write-card-requires : tie.Need-write-card-requires
 write-card-requires c κs =
@@ -35,7 +36,7 @@ write-card-requires c κs =
     (l, omega (arith, l .few-lines, l .few-leads, at-else .if1 .left, at-check .before .before .before .pre))
 
 returns-2 : tie.Need-returns-2
-returns-2 c = stops _ _ _ _ (sym (c .before .before .before .check-with .ensures) ∙ c .before .rule .given .1)
+returns-2 c = rw (c .refused .ensures) (stops _ _ _ _ (sym (c .before .before .before .before .check-with .ensures) ∙ c .before .before .rule .given .1))
 
 returns-3 : tie.Need-returns-3
 returns-3 c =
@@ -50,4 +51,4 @@ returns-3 c =
 pub to-card-with-spec : {M : Type 1} → statement M
 to-card-with-spec =
     tie.close
-    (tie.spec (λ c κs. search needs) (λ c. search needs) (λ c. search needs) mul-if1 add-if1 returns write-card-requires returns-2 (λ c. search needs) returns-3)
+    (tie.spec (λ c κs. search needs) (λ c. search needs) (λ c κs. search needs) (λ c. search needs) mul-if1 add-if1 (λ c κs. search needs) returns write-card-requires returns-2 (λ c. search needs) returns-3)

@@ -10,10 +10,10 @@ use Rattle.grade.proofs.grade_with.Tie as tie
 
 returns : tie.Need-returns
 returns c =
-    let at-tests = c .before .before .before in
+    let at-tests = c .before .before .before .before in
     let at-c = at-tests .before .before in
-    both-break _ (gradeWork _ _ _ _) _ _ _ _ (sym (at-c .before .before .open-list .ensures) ∙ at-c .c .given .1)
-    (sym (at-tests .test-grade .ensures) ∙ c .before .rule2 .given .1)
+    rw (c .refused2 .ensures) (both-break _ (gradeWork _ _ _ _) _ _ _ _ (sym (at-c .before .before .open-list .ensures) ∙ at-c .c .given .1)
+    (sym (at-tests .test-grade .ensures) ∙ c .before .before .rule2 .given .1))
 
 make-tables-requires : tie.Need-make-tables-requires
 make-tables-requires c κs =
@@ -34,7 +34,7 @@ grade-list-requires c κs =
 
 returns-2 : tie.Need-returns-2
 returns-2 c =
-    both-stop _ (gradeWork _ _ _ _) _ _ _ _ (sym (c .before .before .before .open-list .ensures) ∙ c .before .rule .given .1)
+    rw (c .refused .ensures) (both-stop _ (gradeWork _ _ _ _) _ _ _ _ (sym (c .before .before .before .before .open-list .ensures) ∙ c .before .before .rule .given .1))
 
 returns-3 : tie.Need-returns-3
 returns-3 c =
@@ -51,5 +51,5 @@ returns-3 c =
 pub grade-with-spec : {M : Type 1} → statement M
 grade-with-spec =
     tie.close
-    (tie.spec (λ c κs. search needs) (λ c. search needs) (λ c. search needs) (λ c κs. search needs) (λ c. search needs) returns (λ c. search needs)
+    (tie.spec (λ c κs. search needs) (λ c. search needs) (λ c κs. search needs) (λ c. search needs) (λ c κs. search needs) (λ c. search needs) (λ c κs. search needs) returns (λ c. search needs)
     make-tables-requires grade-list-requires returns-2 (λ c. search needs) (λ c. search needs) returns-3)

@@ -12,11 +12,11 @@ test-wires-requires c κs = let p = c .before .before .before .before .pre in bo
 
 returns : tie.Need-returns
 returns c =
-    let at-tests = c .before .before .before in
+    let at-tests = c .before .before .before .before in
     let start = at-tests .before .before .before .before .before in
     let a = start .args in
-    breaks _ _ _ _ refl
-    (tests-told (lent (a .wires .now) (a .odd)) (a .room) (start .pre .0) (start .pre .1) (at-tests .test-wires .ensures) (c .before .rule .given .1))
+    rw (c .refused .ensures) (breaks _ _ _ _ refl
+    (tests-told (lent (a .wires .now) (a .odd)) (a .room) (start .pre .0) (start .pre .1) (at-tests .test-wires .ensures) (c .before .before .rule .given .1)))
 
 write-joined-requires : tie.Need-write-joined-requires
 write-joined-requires c κs =
@@ -45,4 +45,4 @@ returns-2 c =
 pub join-accepted-spec : {M : Type 1} → statement M
 join-accepted-spec =
     tie.close
-    (tie.spec test-wires-requires (λ c. search needs) returns (λ c. search needs) write-joined-requires (λ c. search needs) returns-2)
+    (tie.spec test-wires-requires (λ c. search needs) (λ c κs. search needs) returns (λ c. search needs) write-joined-requires (λ c. search needs) returns-2)

@@ -32,14 +32,14 @@ join-accepted-requires c κs =
     )
 
 returns : tie.Need-returns
-returns c = first-stops _ _ _ _ (sym (c .before .before .before .check-with .ensures) ∙ c .before .rule .given .1)
+returns c = rw (c .refused .ensures) (first-stops _ _ _ _ (sym (c .before .before .before .before .check-with .ensures) ∙ c .before .before .rule .given .1))
 
 returns-2 : tie.Need-returns-2
 returns-2 c =
-    let at-check2 = c .before .before .before in
+    let at-check2 = c .before .before .before .before in
     let at-ca = at-check2 .before .before in
-    first-goes _ _ _ _ (sym (at-ca .before .before .check-with .ensures) ∙ at-ca .ca .given .1)
-    (stops _ _ _ _ (refused-on _ _ (sym (at-check2 .check-with2 .ensures) ∙ c .before .rule2 .given .1)))
+    rw (c .refused2 .ensures) (first-goes _ _ _ _ (sym (at-ca .before .before .check-with .ensures) ∙ at-ca .ca .given .1)
+    (stops _ _ _ _ (refused-on _ _ (sym (at-check2 .check-with2 .ensures) ∙ c .before .before .rule2 .given .1))))
 
 returns-3 : tie.Need-returns-3
 returns-3 c =
@@ -53,5 +53,5 @@ returns-3 c =
 pub join-with-spec : {M : Type 1} → statement M
 join-with-spec =
     tie.close
-    (tie.spec (λ c κs. search needs) (λ c. search needs) (λ c. search needs) (λ c κs. search needs) (λ c. search needs) add-at (λ c. search needs)
+    (tie.spec (λ c κs. search needs) (λ c. search needs) (λ c κs. search needs) (λ c. search needs) (λ c κs. search needs) (λ c. search needs) add-at (λ c κs. search needs) (λ c. search needs)
     join-accepted-requires returns returns-2 (λ c. search needs) returns-3)

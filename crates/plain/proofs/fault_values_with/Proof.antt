@@ -12,10 +12,10 @@ use Rattle.plain.proofs.fault_values_with.Tie as tie
 
 returns : tie.Need-returns
 returns c =
-    let at-tests = c .before .before .before in
+    let at-tests = c .before .before .before .before in
     let at-c = at-tests .before .before in
-    breaks _ (valuesWork (faultTests _ _ _) _ _ _) _ _ (sym (at-c .before .before .open-vector .ensures) ∙ at-c .c .given .1)
-    (sym (at-tests .test-faults .ensures) ∙ c .before .rule2 .given .1)
+    rw (c .refused2 .ensures) (breaks _ (valuesWork (faultTests _ _ _) _ _ _) _ _ (sym (at-c .before .before .open-vector .ensures) ∙ at-c .c .given .1)
+    (sym (at-tests .test-faults .ensures) ∙ c .before .before .rule2 .given .1))
 
 work-out-requires : tie.Need-work-out-requires
 work-out-requires c κs =
@@ -28,7 +28,7 @@ work-out-requires c κs =
     (w .0, w .1, omega (arith, p, w .0 .few-graphs, at-open .before .before .before .before .before .pre))
 
 returns-2 : tie.Need-returns-2
-returns-2 c = stops _ (valuesWork (faultTests _ _ _) _ _ _) _ _ (sym (c .before .before .before .open-vector .ensures) ∙ c .before .rule .given .1)
+returns-2 c = rw (c .refused .ensures) (stops _ (valuesWork (faultTests _ _ _) _ _ _) _ _ (sym (c .before .before .before .before .open-vector .ensures) ∙ c .before .before .rule .given .1))
 
 returns-3 : tie.Need-returns-3
 returns-3 c =
@@ -43,4 +43,4 @@ returns-3 c =
 pub fault-values-with-spec : {M : Type 1} → statement M
 fault-values-with-spec =
     tie.close
-    (tie.spec (λ c κs. search needs) (λ c. search needs) (λ c. search needs) (λ c κs. search needs) (λ c. search needs) returns (λ c. search needs) work-out-requires returns-2 (λ c. search needs) returns-3)
+    (tie.spec (λ c κs. search needs) (λ c. search needs) (λ c κs. search needs) (λ c. search needs) (λ c κs. search needs) (λ c. search needs) (λ c κs. search needs) returns (λ c. search needs) work-out-requires returns-2 (λ c. search needs) returns-3)
