@@ -12,7 +12,7 @@ returns c = high-told _ _ _ _ (sym (c .before .too-high .ensures) ∙ c .if1 .ta
 returns-2 : tie.Need-returns-2
 returns-2 c =
     let at-if1 = c .before in
-    odd-told _ _ _ _ (sym (at-if1 .before .too-high .ensures) ∙ at-if1 .if1 .left) (c .if2 .taken)
+    odd-told _ _ _ _ (sym (at-if1 .before .too-high .ensures) ∙ at-if1 .if1 .left) (omega (arith, c .if2 .taken))
 
 returns-3 : tie.Need-returns-3
 returns-3 c =
