@@ -2,4 +2,3 @@
 
 mod Graphs
 mod Turns
-pub mod Counts

@@ -1,28 +1,21 @@
 // The check of a card: its counts, or the first of document 01's rules that it breaks, and where.
 // It goes through the words once, forward, each word by the reader.
 ghost use mathlib.Core.Path.{_≡_};
-ghost use Prim.Native.Nat.{_+_, _≤_, min};
-ghost use lib.ListN.{length};
+ghost use Prim.Native.Nat.{_+_, _≤_};
 ghost use lib.Dec.{eqb};
 ghost use Rattle.lists.specs.Counting.{choose};
-ghost use Rattle.lists.specs.Tables.{front};
 ghost use Rattle.word32.specs.Fields.{kind};
 ghost use Rattle.form.specs.Check.{counts, cardLength, withGraph, inputTests, outputTests, headerVerdict, rest, checkedWith, lentCheck};
-ghost use Rattle.answers.specs.Limits.{maxGraphs, maxNodes, maxFaults};
-ghost use Rattle.answers.specs.Answers.{valuesOf};
-ghost use Rattle.answers.specs.Calls.{lent, whole};
-ghost use Rattle.answers.specs.Ends.{EndsAs};
+ghost use Rattle.answers.specs.Limits.{maxGraphs, maxNodes};
+ghost use Rattle.answers.specs.Calls.{whole};
 ghost use Rattle.answers.specs.Tests.{firstBroken};
 ghost use Rattle.nodecheck.specs.Table.{Blank};
-ghost use Rattle.cardcheck.specs.Calls.{checkOutcome};
 ghost use Rattle.cardcheck.specs.Graph.{EndTold, DueAfter, openingOf, OpeningTold, Few, GraphTold};
 use answers::Answer;
 use answers::Counts;
-use answers::Ended;
 use answers::MAX_GRAPHS;
 use answers::MAX_NODES;
 use answers::MAX_WORDS;
-use answers::Reply;
 use answers::Rule;
 use answers::Verdict;
 use nodecheck::Named;
@@ -223,37 +216,4 @@ pub fn check(card: &[u32]) -> Answer
     ensures { λ r. ⌜ r ≡ lentCheck (whole (now (card .entry))) ⌝ }
 {
     check_with(card, 0)
-}
-
-// The numbers of a check go to the front of a buffer, as words.
-fn put_counts(c: Counts, numbers: &mut [u32])
-    requires { ⌜ (c .inputs ≤ maxFaults) × (c .graphs ≤ maxFaults) × (c .nodes ≤ maxFaults) × (c .observable ≤ maxFaults) × (c .faults ≤ maxFaults) × (5 ≤ length (now numbers)) ⌝ }
-    ensures { λ _. ⌜ now (numbers .exit) ≡ front (valuesOf c) (now (numbers .entry)) ⌝ }
-{
-    numbers[0] = c.inputs as u32;
-    numbers[1] = c.graphs as u32;
-    numbers[2] = c.nodes as u32;
-    numbers[3] = c.observable as u32;
-    numbers[4] = c.faults as u32;
-}
-
-// The same with the numbers in the front of a buffer, for one of `room` words.
-pub fn check_counts(card: &[u32], extra: usize, room: usize, numbers: &mut [u32]) -> Ended
-    requires { ⌜ min room 5 ≤ length (now numbers) ⌝ }
-    ensures { λ r. ⌜ EndsAs (checkOutcome (lent (now (card .entry)) extra) room) room r (now (numbers .entry)) (now (numbers .exit)) ⌝ }
-{
-    match check_with(card, extra) {
-        Answer::Refused(rule, position) => answers::refused(rule, position),
-        Answer::Accepted(c) => {
-            if room < 5 {
-                return answers::refused(Rule::BufferTooShort, 0);
-            }
-            put_counts(c, numbers);
-            Ended {
-                reply: Reply::Done(0),
-                words: 5,
-                more: 0,
-            }
-        }
-    }
 }

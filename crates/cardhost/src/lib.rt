@@ -1,7 +1,7 @@
 // The calls for the fixture's host, in C: cards, vectors, lists of faults, wires and buffers are bytes, each word four of them, highest byte first, and
 // the answer is one 64-bit number. What is lent is read into words, the call is the one by words, and its words are written as bytes.
 ghost use Rattle.inbytes.specs.Calls.{ofBytes, InBytes, InBytesBoth};
-ghost use Rattle.cardcheck.specs.Calls.{checkOutcome};
+ghost use Rattle.cardcounts.specs.Calls.{checkOutcome};
 ghost use Rattle.plain.specs.Calls.{goodOutcome, faultOutcome};
 ghost use Rattle.changes.specs.Calls.{changeOutcome, criticalOutcome};
 ghost use Rattle.grade.specs.Calls.{gradeOutcome};
@@ -16,7 +16,7 @@ pub extern "C" fn card_check(card: &[u8], numbers: &mut [u8]) -> u64
     let mut ws = inbytes::card_room();
     let mut out = [0u32; 5];
     let n = inbytes::read_words(card, &mut ws);
-    let end = cardcheck::check_counts(&ws[..n], card.len() % 4, numbers.len() / 4, &mut out);
+    let end = cardcounts::check_counts(&ws[..n], card.len() % 4, numbers.len() / 4, &mut out);
     inbytes::answer(end, &out, numbers)
 }
 

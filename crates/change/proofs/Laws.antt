@@ -31,7 +31,7 @@ follow-constant f (suc zero) b = refl
 follow-constant f (suc (suc e)) b = absurd (omega arith)
 
 -- one graph walked with the values of a buffer: local node k of graph h, whose first node the table gives as f, has decision d and takes exit e
-module _ {ws firsts : List ℕ} {h k f : ℕ} (y : Walkable ws firsts h) (l : k < size ws h) (p : f ≡ getD firsts h 0) (xs : List ℕ) {d e : ℕ}
+module _ {ws tables : List ℕ} {h k f : ℕ} (y : Walkable ws tables h) (l : k < size ws h) (p : f ≡ getD tables h 0) (xs : List ℕ) {d e : ℕ}
     (q : Decided ws (h + 1 + 2 * (f + k)) xs 0 d)
     (z : e ≡ exitOf (getD ws (h + 2 + 2 * (f + k)) 0) d) where
   abbrev t : ℕ → ℕ

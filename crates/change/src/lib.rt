@@ -14,11 +14,11 @@ use answers::Counts;
 
 // The value of output graph h where the graphs have the values of the buffer, 0 or 1 each: its walk from the entrance. Exit e leads to local node e - 2, and
 // so the walk starts as if exit 2 had been taken.
-pub fn walk_graph(card: &[u32], firsts: &[u32], h: usize, flips: &[u32]) -> u32
-    requires { ⌜ Walkable (now card) (now firsts) h × (0 < size (now card) h) × (h ≤ length (now flips)) ⌝ }
+pub fn walk_graph(card: &[u32], tables: &[u32], h: usize, flips: &[u32]) -> u32
+    requires { ⌜ Walkable (now card) (now tables) h × (0 < size (now card) h) × (h ≤ length (now flips)) ⌝ }
     ensures { λ r. ⌜ (BitsBelow h (now (flips .entry)) → r ≡ walk (taken (now (card .entry)) good (λ g. getD (now (flips .entry)) g 0) h) (size (now (card .entry)) h) 0) ⌝ }
 {
-    let first = layout::first_node(firsts, h);
+    let first = layout::first_node(tables, h);
     let mut e = 2;
     loop {
         let j = first + (e - 2);
@@ -31,21 +31,21 @@ pub fn walk_graph(card: &[u32], firsts: &[u32], h: usize, flips: &[u32]) -> u32
 }
 
 // Graph h in the change walk of a lower graph: an input stays, and an output is walked again.
-fn flip_at(card: &[u32], c: Counts, firsts: &[u32], h: usize, flips: &mut [u32])
-    requires { ⌜ Ready (now card) c (now firsts) × (h < c .graphs) × (c .graphs ≤ length (now flips)) ⌝ }
+fn flip_at(card: &[u32], c: Counts, tables: &[u32], h: usize, flips: &mut [u32])
+    requires { ⌜ Ready (now card) c (now tables) × (h < c .graphs) × (c .graphs ≤ length (now flips)) ⌝ }
     ensures { λ _. ⌜ ((x : List ℕ) (g : ℕ) → g < h → Between (flipped (now (card .entry)) c x g) (value (now (card .entry)) c good x) (c .graphs) h (now (flips .entry))
         → Between (flipped (now (card .entry)) c x g) (value (now (card .entry)) c good x) (c .graphs) (h + 1) (now (flips .exit))) ⌝ }
 {
     if h < c.inputs {
         return;
     }
-    let v = walk_graph(card, firsts, h, flips);
+    let v = walk_graph(card, tables, h, flips);
     lists::put(flips, h, v);
 }
 
 // The change walk of graph g. Where the buffer has the graphs' good values under a vector, it then has those with g held at the opposite of its own.
-pub fn change(card: &[u32], c: Counts, firsts: &[u32], g: usize, flips: &mut [u32])
-    requires { ⌜ Ready (now card) c (now firsts) × (g < c .graphs) × (c .graphs ≤ length (now flips)) × (getD (now flips) g 0 < 2) ⌝ }
+pub fn change(card: &[u32], c: Counts, tables: &[u32], g: usize, flips: &mut [u32])
+    requires { ⌜ Ready (now card) c (now tables) × (g < c .graphs) × (c .graphs ≤ length (now flips)) × (getD (now flips) g 0 < 2) ⌝ }
     ensures { λ _. ⌜ ((x : List ℕ) → Has (value (now (card .entry)) c good x) (c .graphs) (now (flips .entry))
         → Has (flipped (now (card .entry)) c x g) (c .graphs) (now (flips .exit))) ⌝ }
 {
@@ -53,7 +53,7 @@ pub fn change(card: &[u32], c: Counts, firsts: &[u32], g: usize, flips: &mut [u3
     lists::put(flips, g, 1 - own);
     let mut h = g + 1;
     while h < c.graphs {
-        flip_at(card, c, firsts, h, flips);
+        flip_at(card, c, tables, h, flips);
         h += 1;
     }
 }

@@ -48,7 +48,7 @@ module _ {ws : List ℕ} {c : Counts} (s : Shape ws c) where
   pub own-first : {g f : ℕ} → g < c .graphs → f ≡ first ws g → f ≡ getD (ownTable ws c) g 0
   own-first {g} h e = e ∙ sym (own-ready .table g (omega arith))
 
-module _ {ws firsts : List ℕ} {c : Counts} (y : Ready ws c firsts) where
+module _ {ws tables : List ℕ} {c : Counts} (y : Ready ws c tables) where
   -- a graph has no more nodes than a card
   pub few-nodes : (g : ℕ) → g < c .graphs → size ws g ≤ 4096
   few-nodes g h = omega (arith, first-next ws g, first-few (y .shape) (suc g) (omega arith), y .shape .few-nodes)
@@ -57,7 +57,7 @@ module _ {ws firsts : List ℕ} {c : Counts} (y : Ready ws c firsts) where
   some-node {g} h i = y .shape .output g h i .1
 
   -- each graph can be walked
-  pub walkable : {g : ℕ} → g < c .graphs → Walkable ws firsts g
+  pub walkable : {g : ℕ} → g < c .graphs → Walkable ws tables g
   walkable {g} h =
       let e : first ws (g + 1) ≡ first ws g + size ws g = ap (first ws) (add-one g) ∙ first-next ws g in
       record {
@@ -69,19 +69,19 @@ module _ {ws firsts : List ℕ} {c : Counts} (y : Ready ws c firsts) where
         later = y .shape .exits-later g h;
       }
 
-module _ {ws firsts : List ℕ} {g : ℕ} (y : Walkable ws firsts g) where
+module _ {ws tables : List ℕ} {g : ℕ} (y : Walkable ws tables g) where
   -- the number of its nodes, as the table gives it
-  pub size-is : {f n : ℕ} → f ≡ getD firsts g 0 → n ≡ getD firsts (g + 1) 0 → n ≡ f + size ws g
+  pub size-is : {f n : ℕ} → f ≡ getD tables g 0 → n ≡ getD tables (g + 1) 0 → n ≡ f + size ws g
   size-is e u = u ∙ y .next ∙ ap (_+ size ws g) (sym (e ∙ y .here))
 
-  pub size-asks : (g + 1 < length firsts) × (getD firsts g 0 ≤ getD firsts (g + 1) 0)
+  pub size-asks : (g + 1 < length tables) × (getD tables g 0 ≤ getD tables (g + 1) 0)
   size-asks = (y .long, omega (arith, y .here, y .next))
 
-  pub size-told : {n : ℕ} → n ≡ getD firsts (g + 1) 0 - getD firsts g 0 → n ≡ size ws g
+  pub size-told : {n : ℕ} → n ≡ getD tables (g + 1) 0 - getD tables g 0 → n ≡ size ws g
   size-told u = omega (arith, y .here, y .next)
 
   -- its header, where the table gives its first node as f
-  module _ {f : ℕ} (e : f ≡ getD firsts g 0) where
+  module _ {f : ℕ} (e : f ≡ getD tables g 0) where
     pub first-is : f ≡ first ws g
     first-is = e ∙ y .here
 
@@ -95,7 +95,7 @@ module _ {ws firsts : List ℕ} {g : ℕ} (y : Walkable ws firsts g) where
         ∙ ap (λ (n : ℕ). eqb (kind (getD ws (g + 2 * n) 0)) 2) first-is
 
   -- its local node k
-  module _ {k f : ℕ} (l : k < size ws g) (e : f ≡ getD firsts g 0) where
+  module _ {k f : ℕ} (l : k < size ws g) (e : f ≡ getD tables g 0) where
     pub node-number : f + k ≡ first ws g + k
     node-number = ap (_+ k) (first-is e)
 
@@ -129,7 +129,7 @@ module _ {ws firsts : List ℕ} {g : ℕ} (y : Walkable ws firsts g) where
           y .later k d (a - 2) l (sym exit-is ∙ z)
 
 -- the numbers of a node, and of the later node that an exit is, are below the number of nodes
-module _ {ws firsts : List ℕ} {c : Counts} (y : Ready ws c firsts) {g k f : ℕ} (h : g < c .graphs) (l : k < size ws g) (e : f ≡ getD firsts g 0) where
+module _ {ws tables : List ℕ} {c : Counts} (y : Ready ws c tables) {g k f : ℕ} (h : g < c .graphs) (l : k < size ws g) (e : f ≡ getD tables g 0) where
   pub node-number-below : f + k < c .nodes
   node-number-below = omega (arith, node-number (walkable y h) l e, node-below (y .shape) g k h l)
 

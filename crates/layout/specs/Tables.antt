@@ -16,16 +16,16 @@ Decided ws p xs base d =
     v < 2 → d ≡ decided (getD ws p 0) v
 
 -- the card is of the form, and the table has its first nodes
-pub record Ready (ws : List ℕ) (c : Counts) (firsts : List ℕ) : Type 0 where
+pub record Ready (ws : List ℕ) (c : Counts) (tables : List ℕ) : Type 0 where
   pub shape : Shape ws c
-  pub long : c .graphs < length firsts
-  pub table : (g : ℕ) → g ≤ c .graphs → getD firsts g 0 ≡ first ws g
+  pub long : c .graphs < length tables
+  pub table : (g : ℕ) → g ≤ c .graphs → getD tables g 0 ≡ first ws g
 
 -- what a walk through the nodes of graph g asks: where the table says that they stand, inside the words, reading lower graphs, with exits to later nodes
-pub record Walkable (ws firsts : List ℕ) (g : ℕ) : Type 0 where
-  pub long : g + 1 < length firsts
-  pub here : getD firsts g 0 ≡ first ws g
-  pub next : getD firsts (g + 1) 0 ≡ first ws g + size ws g
+pub record Walkable (ws tables : List ℕ) (g : ℕ) : Type 0 where
+  pub long : g + 1 < length tables
+  pub here : getD tables g 0 ≡ first ws g
+  pub next : getD tables (g + 1) 0 ≡ first ws g + size ws g
   pub fits : g + 2 * (first ws g + size ws g) < length ws
   pub lower : ReadsLower ws g
   pub later : ExitsLater ws g

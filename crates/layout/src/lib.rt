@@ -73,21 +73,21 @@ pub fn first_nodes(card: &[u32], c: Counts, firsts: &mut [u32])
     firsts[g] = n as u32;
 }
 
-// The first node of graph g. Here and above, `firsts` is a table that begins with the first nodes: that of these alone, or a card's tables.
-pub fn first_node(firsts: &[u32], g: usize) -> usize
-    requires { ⌜ g < length (now firsts) ⌝ }
-    ensures { λ r. ⌜ r ≡ getD (now (firsts .entry)) g 0 ⌝ }
+// The first node of graph g. A card's tables begin with the first nodes; a call that wants no other table makes these alone.
+pub fn first_node(tables: &[u32], g: usize) -> usize
+    requires { ⌜ g < length (now tables) ⌝ }
+    ensures { λ r. ⌜ r ≡ getD (now (tables .entry)) g 0 ⌝ }
 {
-    lists::get(firsts, g) as usize
+    lists::get(tables, g) as usize
 }
 
 // The number of nodes of graph g.
-pub fn graph_size(firsts: &[u32], g: usize) -> usize
-    requires { ⌜ (g + 1 < length (now firsts)) × (getD (now firsts) g 0 ≤ getD (now firsts) (g + 1) 0) ⌝ }
-    ensures { λ r. ⌜ r ≡ getD (now (firsts .entry)) (g + 1) 0 - getD (now (firsts .entry)) g 0 ⌝ }
+pub fn graph_size(tables: &[u32], g: usize) -> usize
+    requires { ⌜ (g + 1 < length (now tables)) × (getD (now tables) g 0 ≤ getD (now tables) (g + 1) 0) ⌝ }
+    ensures { λ r. ⌜ r ≡ getD (now (tables .entry)) (g + 1) 0 - getD (now (tables .entry)) g 0 ⌝ }
 {
-    let first = first_node(firsts, g);
-    first_node(firsts, g + 1) - first
+    let first = first_node(tables, g);
+    first_node(tables, g + 1) - first
 }
 
 // The graph that node j, of graph g, reads.
@@ -124,10 +124,10 @@ pub fn exit_at(card: &[u32], g: usize, j: usize, decision: u32) -> usize
 }
 
 // Whether graph h is observable.
-pub fn is_observable(card: &[u32], firsts: &[u32], h: usize) -> bool
-    requires { ⌜ Walkable (now card) (now firsts) h ⌝ }
+pub fn is_observable(card: &[u32], tables: &[u32], h: usize) -> bool
+    requires { ⌜ Walkable (now card) (now tables) h ⌝ }
     ensures { λ r. ⌜ r ≡ observable (now (card .entry)) h ⌝ }
 {
-    let first = first_node(firsts, h);
+    let first = first_node(tables, h);
     word32::kind(lists::get(card, h + 2 * first)) == 2
 }

@@ -39,10 +39,10 @@ none-swept l = record { long = l; nodes = λ g k h i. absurd (omega arith); grap
 pub none-later : {ws : List ℕ} {c : Counts} {x xs : List ℕ} {g n : ℕ} → Swept ws c x g xs → n ≡ size ws g → Partly ws c x g n xs
 none-later s e = record { done = s; later = λ i h l. absurd (omega arith) }
 
-module _ {ws firsts : List ℕ} {c : Counts} (y : Ready ws c firsts) where
+module _ {ws tables : List ℕ} {c : Counts} (y : Ready ws c tables) where
   -- local node k of graph g, whose first node the table gives as f: its decision d and its exit a, where the values of the lower graphs and of the later
   -- nodes are there
-  module _ {g k f : ℕ} (h : g < c .graphs) (l : k < size ws g) (e : f ≡ getD firsts g 0) where
+  module _ {g k f : ℕ} (h : g < c .graphs) (l : k < size ws g) (e : f ≡ getD tables g 0) where
     module _ (x xs : List ℕ) {d a : ℕ} (q : Decided ws (g + 1 + 2 * (f + k)) xs (c .nodes) d)
         (u : a ≡ exitOf (getD ws (g + 2 + 2 * (f + k)) 0) d) (p : Partly ws c x g (k + 1) xs) where
       decision-good : d ≡ decision ws (value ws c good x) g k
@@ -109,7 +109,7 @@ module _ {ws firsts : List ℕ} {c : Counts} (y : Ready ws c firsts) where
         graph-stored (none-later s (sym (a .1))) (e ∙ sym (value-input (y .shape) good x g h (a .0))) o
 
     -- and of another, which has its entrance's value
-    module _ (i : c .inputs ≤ g) {f : ℕ} (e : f ≡ getD firsts g 0) {xs : List ℕ} (p : Partly ws c x g 0 xs) where
+    module _ (i : c .inputs ≤ g) {f : ℕ} (e : f ≡ getD tables g 0) {xs : List ℕ} (p : Partly ws c x g 0 xs) where
       pub entrance-inside : f < length xs
       entrance-inside =
           let n = some-node y h i in

@@ -52,12 +52,12 @@ fn sweep_nodes(card: &[u32], c: Counts, from: usize, g: usize, n: usize, values:
 fn sweep_graph(
     card: &[u32],
     c: Counts,
-    firsts: &[u32],
+    tables: &[u32],
     vector: &[u32],
     g: usize,
     values: &mut [u32],
 )
-    requires { ⌜ Ready (now card) c (now firsts) × Wide (c .inputs) (now vector) × (g < c .graphs) × Swept (now card) c (now vector) g (now values) ⌝ }
+    requires { ⌜ Ready (now card) c (now tables) × Wide (c .inputs) (now vector) × (g < c .graphs) × Swept (now card) c (now vector) g (now values) ⌝ }
     ensures { λ _. ⌜ Swept (now (card .entry)) c (now (vector .entry)) (g + 1) (now (values .exit)) ⌝ }
 {
     let site = c.nodes + g;
@@ -65,21 +65,21 @@ fn sweep_graph(
         lists::put(values, site, testvectors::bit(vector, g));
         return;
     }
-    let first = layout::first_node(firsts, g);
-    let n = layout::graph_size(firsts, g);
+    let first = layout::first_node(tables, g);
+    let n = layout::graph_size(tables, g);
     sweep_nodes(card, c, first, g, n, values);
     let v = lists::get(values, first);
     lists::put(values, site, v);
 }
 
 // All graphs.
-pub fn sweep(card: &[u32], c: Counts, firsts: &[u32], vector: &[u32], values: &mut [u32])
-    requires { ⌜ Ready (now card) c (now firsts) × Wide (c .inputs) (now vector) × (c .nodes + c .graphs ≤ length (now values)) ⌝ }
+pub fn sweep(card: &[u32], c: Counts, tables: &[u32], vector: &[u32], values: &mut [u32])
+    requires { ⌜ Ready (now card) c (now tables) × Wide (c .inputs) (now vector) × (c .nodes + c .graphs ≤ length (now values)) ⌝ }
     ensures { λ _. ⌜ Swept (now (card .entry)) c (now (vector .entry)) (c .graphs) (now (values .exit)) ⌝ }
 {
     let mut g = 0;
     while g < c.graphs {
-        sweep_graph(card, c, firsts, vector, g, values);
+        sweep_graph(card, c, tables, vector, g, values);
         g += 1;
     }
 }

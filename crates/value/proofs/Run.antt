@@ -13,14 +13,14 @@ use Rattle.value.specs.Values.{taken, value, nodeValue}
 use Rattle.value.proofs.Values.{node-constant, node-onward}
 
 -- local node k of graph g, whose first node the table gives as f, takes exit a at decision d
-module _ {ws firsts : List ℕ} {g k f : ℕ} (y : Walkable ws firsts g) (l : k < size ws g) (e : f ≡ getD firsts g 0) (s : Setting) (v : ℕ → ℕ) where
+module _ {ws tables : List ℕ} {g k f : ℕ} (y : Walkable ws tables g) (l : k < size ws g) (e : f ≡ getD tables g 0) (s : Setting) (v : ℕ → ℕ) where
   pub taken-is : {d a : ℕ} → d ≡ decision ws v g k → a ≡ exitOf (getD ws (g + 2 + 2 * (f + k)) 0) (s (f + k) d) → taken ws s v g k ≡ a
   taken-is {d} q u =
       sym (exit-is y l e (s (f + k) d) u ∙ ap (λ (n : ℕ). exits ws g k (s n d)) (node-number y l e)
       ∙ ap (λ (n : ℕ). exits ws g k (s (first ws g + k) n)) q)
 
 -- where that exit is a constant, and where it is a later node
-module _ {ws firsts : List ℕ} {c : Counts} (y : Ready ws c firsts) {g k f : ℕ} (h : g < c .graphs) (l : k < size ws g) (e : f ≡ getD firsts g 0)
+module _ {ws tables : List ℕ} {c : Counts} (y : Ready ws c tables) {g k f : ℕ} (h : g < c .graphs) (l : k < size ws g) (e : f ≡ getD tables g 0)
     (s : Setting) (x : List ℕ) {d a : ℕ} (q : d ≡ decision ws (value ws c s x) g k) (u : a ≡ exitOf (getD ws (g + 2 + 2 * (f + k)) 0) (s (f + k) d)) where
   pub node-ends : a < 2 → a ≡ nodeValue ws c s x g k
   node-ends b = sym (node-constant (y .shape) s x g k a h l (taken-is (walkable y h) l e s (value ws c s x) q u) b)

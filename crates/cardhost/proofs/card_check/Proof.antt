@@ -6,7 +6,7 @@ use Rattle.answers.proofs.Positions.{outcome-stands}
 use Rattle.form.proofs.Positions.{check-low}
 use Rattle.inbytes.specs.Calls.{room}
 use Rattle.inbytes.proofs.Laws.{read-slice, check-read, in-bytes}
-use Rattle.cardcheck.specs.Calls.{checkWork, checkOutcome}
+use Rattle.cardcounts.specs.Calls.{checkWork, checkOutcome}
 use Rattle.cardhost.proofs.card_check.Statement.{statement}
 use Rattle.cardhost.proofs.card_check.Tie as tie
 

@@ -15,11 +15,11 @@ use Rattle.change.proofs.change.Statement.{statement}
 use Rattle.change.proofs.change.Tie as tie
 
 abbrev Inv-loop : tie.InvT-loop
-Inv-loop card c firsts g flips₀ own h₀ flips h = (g < h) × (length flips ≡ length flips₀)
+Inv-loop card c tables g flips₀ own h₀ flips h = (g < h) × (length flips ≡ length flips₀)
     × ((x : List ℕ) → Between (flipped card c x g) (value card c good x) (c .graphs) h₀ flips₀ → Between (flipped card c x g) (value card c good x) (c .graphs) h flips)
 
 abbrev μ-loop : tie.MeasureT-loop
-μ-loop card c firsts g flips₀ own h₀ flips h = c .graphs - h
+μ-loop card c tables g flips₀ own h₀ flips h = c .graphs - h
 
 get-requires : tie.Need-get-requires Inv-loop μ-loop
 get-requires c κs =

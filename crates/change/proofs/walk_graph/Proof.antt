@@ -15,12 +15,12 @@ use Rattle.change.proofs.walk_graph.Statement.{statement}
 use Rattle.change.proofs.walk_graph.Tie as tie
 
 abbrev Inv-loop : tie.InvT-loop
-Inv-loop card firsts h flips first e₀ e = (e - 2 < size card h)
+Inv-loop card tables h flips first e₀ e = (e - 2 < size card h)
     × (BitsBelow h flips → walk (taken card good (λ g. getD flips g 0) h) (size card h) 0 ≡ walk (taken card good (λ g. getD flips g 0) h) (size card h) (e - 2))
     × (2 ≤ e)
 
 abbrev μ-loop : tie.MeasureT-loop
-μ-loop card firsts h flips first e₀ e = size card h - (e - 2)
+μ-loop card tables h flips first e₀ e = size card h - (e - 2)
 
 loop-holds : tie.Need-loop-holds Inv-loop μ-loop
 loop-holds c = (c .before .before .before .before .pre .1, λ b. refl, omega arith)

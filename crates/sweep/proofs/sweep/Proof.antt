@@ -10,10 +10,10 @@ use Rattle.sweep.proofs.sweep.Statement.{statement}
 use Rattle.sweep.proofs.sweep.Tie as tie
 
 abbrev Inv-loop : tie.InvT-loop
-Inv-loop card c firsts vector values₀ g₀ values g = (g ≤ c .graphs) × (length values ≡ length values₀) × Swept card c vector g values
+Inv-loop card c tables vector values₀ g₀ values g = (g ≤ c .graphs) × (length values ≡ length values₀) × Swept card c vector g values
 
 abbrev μ-loop : tie.MeasureT-loop
-μ-loop card c firsts vector values₀ g₀ values g = c .graphs - g
+μ-loop card c tables vector values₀ g₀ values g = c .graphs - g
 
 loop-holds : tie.Need-loop-holds Inv-loop μ-loop
 loop-holds c = (omega arith, refl, none-swept (c .before .before .before .before .pre .2))

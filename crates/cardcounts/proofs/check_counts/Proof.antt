@@ -1,13 +1,13 @@
--- `cardcheck::check_counts` meets its contract. Assumes nothing.
+-- `cardcounts::check_counts` meets its contract. Assumes nothing.
 use mathlib.Core.Path.{refl, sym, _∙_}
 use native.Mathlib.Omega.{arith}
 use borrow.Author.Tests.{lt-ltb, le-ltb}
 use borrow.Author.Needs.{needs}
 use Rattle.answers.proofs.Ends.{stops, breaks, finishes}
 use Rattle.form.proofs.Checked.{check-accepts, few-observable}
-use Rattle.cardcheck.specs.Calls.{checkWork}
-use Rattle.cardcheck.proofs.check_counts.Statement.{statement}
-use Rattle.cardcheck.proofs.check_counts.Tie as tie
+use Rattle.cardcounts.specs.Calls.{checkWork}
+use Rattle.cardcounts.proofs.check_counts.Statement.{statement}
+use Rattle.cardcounts.proofs.check_counts.Tie as tie
 
 returns : tie.Need-returns
 returns c =

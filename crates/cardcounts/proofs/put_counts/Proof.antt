@@ -1,10 +1,10 @@
--- `cardcheck::put_counts` meets its contract. Assumes nothing.
+-- `cardcounts::put_counts` meets its contract. Assumes nothing.
 use native.Mathlib.Omega.{arith}
 use lib.ListN.{length-set}
 use borrow.Author.Needs.{needs}
-use Rattle.cardcheck.proofs.Counts.{five-put}
-use Rattle.cardcheck.proofs.put_counts.Statement.{statement}
-use Rattle.cardcheck.proofs.put_counts.Tie as tie
+use Rattle.cardcounts.proofs.Counts.{five-put}
+use Rattle.cardcounts.proofs.put_counts.Statement.{statement}
+use Rattle.cardcounts.proofs.put_counts.Tie as tie
 
 slice-write-numbers-2 : tie.Need-slice-write-numbers-2
 slice-write-numbers-2 c = simp length-set (omega arith)

@@ -1,0 +1,2 @@
+-- The five numbers of a check in a buffer.
+mod Counts
