@@ -24,7 +24,7 @@ static FILE *file;
 static uint8_t gates[4 * (WORDS + 1)], card[4 * WORDS]; /* one word more than a list has at most, so that a longer one is refused */
 static size_t gates_len;
 
-static void fault(const char *what, const char *why)
+static void error(const char *what, const char *why)
 {
     fprintf(stderr, "gates: %s: %s\n", what, why);
     exit(2);
@@ -36,11 +36,11 @@ static uint32_t word(const uint8_t *bytes, size_t at)
     return (uint32_t)bytes[0] << 24 | (uint32_t)bytes[1] << 16 | (uint32_t)bytes[2] << 8 | bytes[3];
 }
 
-/* Fewer bytes than are wanted are a fault. */
+/* Fewer bytes than are wanted are an error. */
 static void read_bytes(uint8_t *bytes, size_t len)
 {
     if (fread(bytes, 1, len, file) < len)
-        fault(name, ferror(file) ? "it cannot be read" : "it ends before its word count is met");
+        error(name, ferror(file) ? "it cannot be read" : "it ends before its word count is met");
 }
 
 /* Of a list with too many words the number alone decides, and they are not read. */
@@ -49,7 +49,7 @@ static void take_gates(void)
     uint8_t count[4];
     file = fopen(name, "rb");
     if (!file)
-        fault(name, "it cannot be opened");
+        error(name, "it cannot be opened");
     read_bytes(count, sizeof count);
     gates_len = sizeof gates;
     if (word(count, 0) <= WORDS) {
@@ -91,14 +91,14 @@ static void print_vectors(void)
     while ((n = fread(bytes, 1, sizeof bytes, file)) == sizeof bytes)
         printf("%08X\n", (unsigned)word(bytes, 0));
     if (n > 0 || ferror(file))
-        fault(name, "it cannot be read, or ends inside a word");
+        error(name, "it cannot be read, or ends inside a word");
 }
 
 int main(int argc, char **argv)
 {
     uint64_t answer;
     if (argc != 2)
-        fault("usage", "gates LIST");
+        error("usage", "gates LIST");
     name = argv[1];
     take_gates();
     answer = card_from_gates(gates, gates_len, card, sizeof card);
@@ -109,6 +109,6 @@ int main(int argc, char **argv)
         print_vectors();
     }
     if (fflush(stdout) || ferror(stdout))
-        fault("standard output", "it did not take the whole text");
+        error("standard output", "it did not take the whole text");
     return CARD_REFUSAL(answer) != 0;
 }

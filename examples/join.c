@@ -32,7 +32,7 @@ struct part {
 static struct part a, b, wires;
 static uint8_t joined[4 * CARD_WORDS];
 
-static void fault(const char *name, const char *why)
+static void error(const char *name, const char *why)
 {
     fprintf(stderr, "join: %s: %s\n", name, why);
     exit(2);
@@ -44,11 +44,11 @@ static uint32_t word(const uint8_t *bytes, size_t at)
     return (uint32_t)bytes[0] << 24 | (uint32_t)bytes[1] << 16 | (uint32_t)bytes[2] << 8 | bytes[3];
 }
 
-/* Fewer bytes than are wanted are a fault. */
+/* Fewer bytes than are wanted are an error. */
 static void read_bytes(struct part *part, uint8_t *bytes, size_t len)
 {
     if (fread(bytes, 1, len, part->file) < len)
-        fault(part->name, ferror(part->file) ? "it cannot be read" : "it ends before its word count is met");
+        error(part->name, ferror(part->file) ? "it cannot be read" : "it ends before its word count is met");
 }
 
 /* Of a part with too many words for any card the number alone decides, and they are not read. */
@@ -58,7 +58,7 @@ static void take_part(struct part *part, const char *name)
     part->name = name;
     part->file = fopen(name, "rb");
     if (!part->file)
-        fault(name, "it cannot be opened");
+        error(name, "it cannot be opened");
     read_bytes(part, count, sizeof count);
     part->len = sizeof part->words;
     if (word(count, 0) <= CARD_WORDS) {
@@ -131,7 +131,7 @@ static void print_vectors(void)
     while ((n = fread(bytes, 1, sizeof bytes, wires.file)) == sizeof bytes)
         printf("%08X\n", (unsigned)word(bytes, 0));
     if (n > 0 || ferror(wires.file))
-        fault(wires.name, "it cannot be read, or ends inside a word");
+        error(wires.name, "it cannot be read, or ends inside a word");
 }
 
 /* ---- what a refusal is about ---- */
@@ -153,7 +153,7 @@ int main(int argc, char **argv)
 {
     uint64_t answer;
     if (argc != 4)
-        fault("usage", "join A B WIRES");
+        error("usage", "join A B WIRES");
     take_part(&a, argv[1]);
     take_part(&b, argv[2]);
     take_part(&wires, argv[3]);
@@ -165,6 +165,6 @@ int main(int argc, char **argv)
         print_vectors();
     }
     if (fflush(stdout) || ferror(stdout))
-        fault("standard output", "it did not take the whole text");
+        error("standard output", "it did not take the whole text");
     return CARD_REFUSAL(answer) != 0;
 }

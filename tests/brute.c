@@ -51,7 +51,7 @@ static void put_word(uint8_t *bytes, size_t at, uint32_t w)
 /* ---- the check ---- */
 
 /* Of a word where a header is due: its refusal, or 0. */
-static uint64_t header_fault(const struct card *c, uint32_t w, size_t at)
+static uint64_t header_refusal(const struct card *c, uint32_t w, size_t at)
 {
     unsigned kind = w >> 29, n = w & 0xFFFF;
     if (c->graphs == MAX_GRAPHS)
@@ -66,7 +66,7 @@ static uint64_t header_fault(const struct card *c, uint32_t w, size_t at)
 }
 
 /* Of a word where a read is due. */
-static uint64_t read_fault(const struct card *c, uint32_t w, size_t at)
+static uint64_t read_refusal(const struct card *c, uint32_t w, size_t at)
 {
     if (w >> 29 != 3)
         return refuse(4, at);
@@ -83,7 +83,7 @@ static int exit_is_wrong(unsigned e, unsigned local, unsigned n)
 }
 
 /* Of a word where the exits of a local node of n are due. */
-static uint64_t exits_fault(uint32_t w, size_t at, unsigned local, unsigned n)
+static uint64_t exits_refusal(uint32_t w, size_t at, unsigned local, unsigned n)
 {
     if (w >> 29 != 4)
         return refuse(4, at);
@@ -101,11 +101,11 @@ static uint64_t take_node(struct card *c, const uint8_t *card, size_t words, siz
     uint64_t r;
     if (at >= words)
         return refuse(4, words);
-    if ((r = read_fault(c, get_word(card, at), at)) != 0)
+    if ((r = read_refusal(c, get_word(card, at), at)) != 0)
         return r;
     if (at + 1 >= words)
         return refuse(4, words);
-    if ((r = exits_fault(get_word(card, at + 1), at + 1, local, n)) != 0)
+    if ((r = exits_refusal(get_word(card, at + 1), at + 1, local, n)) != 0)
         return r;
     c->home[j] = c->graphs;
     c->read[j] = get_word(card, at) & 0xFFFF;
@@ -134,7 +134,7 @@ static uint64_t take_graph(struct card *c, const uint8_t *card, size_t words, si
     size_t head = *at;
     uint32_t w = get_word(card, head);
     unsigned n = w & 0xFFFF;
-    uint64_t r = header_fault(c, w, head);
+    uint64_t r = header_refusal(c, w, head);
     if (r)
         return r;
     c->kind[c->graphs] = w >> 29;
@@ -198,7 +198,7 @@ static int vector_word_is_right(const struct card *c, uint32_t w, size_t j)
 }
 
 /* Of words for a list, or for a single vector: the refusal, or 0. */
-static uint64_t vectors_fault(const struct card *c, const uint8_t *vectors, size_t len, int single)
+static uint64_t vectors_refusal(const struct card *c, const uint8_t *vectors, size_t len, int single)
 {
     size_t words = len / 4;
     if (len % 4 || words % width(c))
@@ -215,7 +215,7 @@ static uint64_t vectors_fault(const struct card *c, const uint8_t *vectors, size
 
 /* Of a list of fault numbers: the refusal, or 0. A node and a graph have two faults each, an even number and the next one, so
  * that of two equal numbers and of both faults of one place the halves are equal. */
-static uint64_t faults_fault(const struct card *c, const uint8_t *faults, size_t len)
+static uint64_t faults_refusal(const struct card *c, const uint8_t *faults, size_t len)
 {
     size_t count = len / 4;
     for (size_t i = 0; i < count; i++)
@@ -480,7 +480,7 @@ static void put_grade(uint8_t *marks, uint8_t *tallies, unsigned faults)
 static uint64_t take(const uint8_t *card, size_t card_len, const uint8_t *vectors, size_t len, int single)
 {
     uint64_t r = take_card(&the_card, card, card_len);
-    return r ? r : vectors_fault(&the_card, vectors, len, single);
+    return r ? r : vectors_refusal(&the_card, vectors, len, single);
 }
 
 uint64_t brute_check(const uint8_t *card, size_t card_len, uint8_t *numbers, size_t numbers_len)
@@ -524,7 +524,7 @@ uint64_t brute_fault_values(const uint8_t *card, size_t card_len, const uint8_t 
 {
     struct faults in;
     uint64_t r = take(card, card_len, vector, vector_len, 1);
-    if (r || (r = faults_fault(&the_card, faults, faults_len)) != 0)
+    if (r || (r = faults_refusal(&the_card, faults, faults_len)) != 0)
         return r;
     if (values_len / 4 < the_card.graphs)
         return refuse(12, 0);

@@ -43,7 +43,7 @@ static int is_no_gate(unsigned function, unsigned n)
 }
 
 /* Of a word where a header is due: its refusal, or 0. */
-static uint64_t header_fault(const struct gate_list *g, uint32_t w, size_t at)
+static uint64_t header_refusal(const struct gate_list *g, uint32_t w, size_t at)
 {
     unsigned kind = w >> 29, function = w >> 26 & 7, n = w & 0xFFFF;
     if (g->lines == GATESIM_LINES)
@@ -60,7 +60,7 @@ static uint64_t header_fault(const struct gate_list *g, uint32_t w, size_t at)
 }
 
 /* Of a word where a lead of the next line is due. */
-static uint64_t lead_fault(const struct gate_list *g, uint32_t w, size_t at)
+static uint64_t lead_refusal(const struct gate_list *g, uint32_t w, size_t at)
 {
     if (w >> 29 != 3)
         return refuse(4, at);
@@ -76,14 +76,14 @@ static uint64_t take_line(struct gate_list *g, const uint8_t *gates, size_t word
 {
     uint32_t w = get_word(gates, *at);
     unsigned n = w & 0xFFFF;
-    uint64_t r = header_fault(g, w, *at);
+    uint64_t r = header_refusal(g, w, *at);
     if (r)
         return r;
     for (unsigned k = 0; k < n; k++) {
         size_t lead = *at + 1 + k;
         if (lead >= words)
             return refuse(4, words);
-        if ((r = lead_fault(g, get_word(gates, lead), lead)) != 0)
+        if ((r = lead_refusal(g, get_word(gates, lead), lead)) != 0)
             return r;
         g->from[g->leads + k] = get_word(gates, lead) & 0xFFFF;
     }

@@ -58,7 +58,7 @@ void gen_spoil_vectors(struct input *in);
 void gen_spoil_wires(struct input *in, unsigned graphs);
 void gen_spoil_gates(struct input *in);
 
-/* Where a card's faults are: its nodes, and then its graphs; of a gate list its leads and lines. They are those of the words
+/* The fault sites of a card: its nodes, and then its graphs; of a gate list its leads and lines. They are those of the words
  * as they stand, and of a right card exactly its own. */
 struct places {
     unsigned nodes, graphs;

@@ -1,9 +1,9 @@
-/* faulty.c: preloaded, it makes reads or writes of the processes of one name fail, or move few bytes.
+/* failing.c: preloaded, it makes reads or writes of the processes of one name fail, or move few bytes.
  *
- *   LD_PRELOAD=faulty.so FAULTY="NAME CALL AT TIMES ERROR MOST" FAULTY_SEEN=FILE command
+ *   LD_PRELOAD=failing.so FAILING="NAME CALL AT TIMES ERROR MOST" FAILING_SEEN=FILE command
  *
  * CALL is read or write. Calls number AT to AT + TIMES - 1 fail with the error number ERROR; where one does, FILE is made. No call
- * moves more than MOST bytes. Standard error is left alone, so that what is said there can be tested. With FAULTY_WAIT a call
+ * moves more than MOST bytes. Standard error is left alone, so that what is said there can be tested. With FAILING_WAIT a call
  * fails after so many microseconds, by which time the process at a pipe's other end is done.
  */
 #define _GNU_SOURCE
@@ -25,7 +25,7 @@ static unsigned calls;
 
 __attribute__((constructor)) static void read_plan(void)
 {
-    const char *text = getenv("FAULTY");
+    const char *text = getenv("FAILING");
     if (!text || sscanf(text, "%31s %7s %u %u %u %zu", plan.name, plan.call, &plan.at, &plan.times, &plan.error, &plan.most) != 6)
         plan.call[0] = 0;
     else if (strcmp(plan.name, program_invocation_short_name))
@@ -40,7 +40,7 @@ static int planned(const char *call, int fd)
 /* Whether this call is one of those that fail. */
 static int fails(void)
 {
-    const char *seen = getenv("FAULTY_SEEN"), *wait = getenv("FAULTY_WAIT");
+    const char *seen = getenv("FAILING_SEEN"), *wait = getenv("FAILING_WAIT");
     calls++;
     if (calls < plan.at || calls - plan.at >= plan.times)
         return 0;
