@@ -18,7 +18,7 @@ module _ (ws : List ℕ) (c : Counts) where
   unfolding count readBy
   readers g = count (λ j. eqb (readBy j) g) (c .nodes)
 
-  -- GRAPH g HAS A STEM, unless it is not observable and exactly one node reads it; an input is not observable
+  -- GRAPH g HAS A STEM, unless it is not observable, as no input is, and exactly one node reads it: then it is a lead, the field's fan-out-free line
   unfoldable pub hasStem : ℕ → Bool
   unfolding observable readers
   hasStem g = observable ws g || not (eqb (readers g) 1)
@@ -28,12 +28,12 @@ module _ (ws : List ℕ) (c : Counts) where
   unfolding hasStem
   siteInGrade p = ltb p (c .nodes) || hasStem (p - c .nodes)
 
-  -- FAULT f COUNTS IN THE GRADE: it is one of the two of a site that does
+  -- FAULT f COUNTS IN THE GRADE: it is one of the two of a site that does. A lead's two are left out: each is equivalent to one of its reader's
   unfoldable pub inGrade : ℕ → Bool
   unfolding siteInGrade
   inGrade f = siteInGrade (f / 2)
 
-  -- THE TOTAL: how many faults count
+  -- THE TOTAL: how many faults count. The marked count over it is the fault coverage
   unfoldable pub total : ℕ
   unfolding count inGrade
   total = count inGrade (c .faults)

@@ -23,7 +23,7 @@ module _ (ws : List ℕ) (c : Counts) (x : List ℕ) where
   abbrev pub faultValue : ℕ → ℕ → ℕ
   faultValue f = value ws c (faulty (f ∷ [])) x
 
-  -- THE VECTOR CATCHES FAULT f: with it in, an observable graph differs from its good value
+  -- THE VECTOR CATCHES FAULT f, or detects it, as the field says: with it in, an observable graph differs from its good value
   unfoldable pub detects : ℕ → Bool
   unfolding observed
   detects f = observed ws (c .graphs) goodValue (faultValue f)

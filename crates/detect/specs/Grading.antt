@@ -15,7 +15,7 @@ module _ (ws : List ℕ) (c : Counts) (xs : List ℕ) where
   unfolding detects vector
   detectedBy f t = detects ws c (vector (c .inputs) xs t) f
 
-  -- the tally and the mark of fault f, and the marked count, of the faults that count in the grade
+  -- the tally and the mark of fault f, and the marked count, of the faults that count in the grade: over their total (Stems) it is the fault coverage
   unfoldable pub tally : ℕ → ℕ
   unfolding detectedBy count vectors
   tally = tallyOf detectedBy (vectors (c .inputs) xs)

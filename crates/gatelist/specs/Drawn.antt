@@ -9,7 +9,7 @@ use Rattle.lists.specs.Tables.{chain}
 use Rattle.word32.specs.Fields.{kind, gateFunction, leadCount, headerWord, exitsWord}
 use Rattle.gatelist.specs.Lines.{firstLead}
 
--- the controlling value: that of a lead that decides a gate, whatever its other leads have: 1 for OR (function 1) and NOR (3), 0 for the others
+-- the controlling value (the field's term): a lead that has it decides its gate, whatever the other leads have. 1 for OR (function 1) and NOR (3), else 0
 abbrev pub controlling : ℕ → ℕ
 controlling f = choose (eqb f 1 || eqb f 3) 1 0
 

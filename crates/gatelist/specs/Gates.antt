@@ -56,7 +56,7 @@ module _ (gs : List ℕ) where
     unfolding line grow
     lineValue s x l = at (grow (line (c .nodes) s x) (c .graphs)) l
 
-    -- THE VECTOR CATCHES FAULT f: with it in, an observable line differs from its good value
+    -- THE VECTOR CATCHES FAULT f, or detects it: with it in, an observable line differs from its good value
     unfoldable pub gateDetects : List ℕ → ℕ → Bool
     unfolding shown lineValue
     gateDetects x f = shown (c .graphs) (lineValue good x) (lineValue (faulty (f ∷ [])) x)
@@ -71,8 +71,8 @@ module _ (gs : List ℕ) where
     abbrev pub gateMark : List ℕ → ℕ → ℕ
     gateMark xs = markOf (gateDetectedBy xs) (vectors (c .inputs) xs)
 
-    -- THE GRADE (document 02, 'A lead counts a single time'). How many leads name line l: the words of kind 3 with its number. A fault counts if it is a
-    -- lead's, or that of a line that is observable or that another number of leads than one names.
+    -- THE GRADE (document 02, 'A lead counts a single time'). How many leads name line l: the words of kind 3 with its number. A fault counts if it is
+    -- of a lead, of an observable line, or of a line that no lead or more than one lead names.
     unfoldable pub lineReaders : ℕ → ℕ
     unfolding count
     lineReaders l = count (λ p. eqb (kind (getD gs p 0)) 3 && eqb (leadLine (getD gs p 0)) l) (c .graphs + c .nodes)

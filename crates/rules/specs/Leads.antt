@@ -13,7 +13,7 @@ module _ (ws : List ℕ) (c : Counts) where
   unfolding inverts standsIn
   invertsAt j = inverts ws (standsIn ws j (c .graphs)) (j - first ws (standsIn ws j (c .graphs)))
 
-  -- THE PAIRING: a lead stuck at d goes with this exit of its reader, node j: with the d-exit, crossed over at an inverted read
+  -- THE PAIRING, of equivalent faults: a lead stuck at d goes with its reader, node j, stuck at this exit: the d-exit, or at an inverted read the other
   unfoldable pub pairedExit : ℕ → ℕ → ℕ
   unfolding invertsAt
   pairedExit j d = choose (invertsAt j) (1 - d) d

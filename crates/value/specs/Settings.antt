@@ -4,8 +4,8 @@ use mathlib.Core.List.{List, [], _∷_}
 use lib.Dec.{eqb}
 use Rattle.lists.specs.Counting.{choose}
 
--- FAULT SITES, where a fault is: node j is site j, and graph g is site N + g. A setting says what a site has where v is worked out there: of a
--- node its decision, of a graph its value.
+-- FAULT SITES, as the field calls the places where a fault can be: node j is site j, and graph g is site N + g. A setting s says what site p has where v
+-- is worked out there, s p v: of a node its decision, of a graph its value.
 abbrev pub Setting : Type 0
 Setting = ℕ → ℕ → ℕ
 
@@ -13,8 +13,8 @@ Setting = ℕ → ℕ → ℕ
 abbrev pub Keeps : Setting → Type 0
 Keeps s = (p v : ℕ) → v < 2 → s p v < 2
 
--- Fault f holds site f / 2 at f % 2: so fault 2j makes node j always take its 0-exit and 2j + 1 its 1-exit, and fault 2N + 2g holds graph g at 0
--- and 2N + 2g + 1 at 1.
+-- STUCK-AT FAULTS: fault f holds site f / 2 at f % 2. So fault 2j makes node j always take its 0-exit and 2j + 1 its 1-exit, and fault 2N + 2g holds
+-- graph g at 0 and 2N + 2g + 1 at 1.
 abbrev pub stuck : ℕ → Setting → Setting
 stuck f s p v = choose (eqb (f / 2) p) (f % 2) (s p v)
 
@@ -22,7 +22,7 @@ stuck f s p v = choose (eqb (f / 2) p) (f % 2) (s p v)
 abbrev pub good : Setting
 good p v = v
 
--- the faults of a list, all holding together
+-- the faults of a list, all holding together: the field's multiple fault
 unfoldable pub faulty : List ℕ → Setting
 faulty [] = good
 faulty (f ∷ fs) = stuck f (faulty fs)
