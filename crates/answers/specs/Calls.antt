@@ -1,5 +1,5 @@
--- EVERY CALL, said once: over what is lent to it, and giving its reply and the words that its buffers get, be it made by words or in bytes. And what a
--- call by words promises of that. Assumes nothing.
+-- EVERY CALL is defined once, whether it is made by words or in bytes: what is lent to it gives its reply and the words that go to its buffers. And what
+-- a call by words promises of that. Assumes nothing.
 use Prim.Native.Nat.{ℕ}
 use mathlib.Core.Path.{_≡_}
 use mathlib.Core.List.{List, []}

@@ -1,4 +1,4 @@
--- How a worker ends, beside the outcome of the call. No contract of a call cites these. Assumes nothing.
+-- That a worker ends as the outcome of the call says. No contract of a call cites these. Assumes nothing.
 use Prim.Native.Nat.{ℕ, _≤_, _<_}
 use mathlib.Core.Path.{_≡_}
 use mathlib.Core.List.{List}

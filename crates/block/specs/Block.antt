@@ -35,7 +35,8 @@ pub record Block (c : Counts) (vs : List ℕ) (t : ℕ) : Type 0 where
   pub whole : length vs ≡ vectors (c .inputs) vs * width (c .inputs)
   pub few : t + vectors (c .inputs) vs ≤ maxVectors
 
--- the first n vectors of a block taken in by the result r, which leaves q: by any relation in which they come next, what was graded is graded with them
+-- The result r has taken in the first n vectors of a block and is q then. By any relation that agrees with the card on these vectors, buffers that had the
+-- marks and tallies of the vectors before them now have those of these vectors too.
 pub record TookIn (ws : List ℕ) (c : Counts) (vs : List ℕ) (n : ℕ) (xs us ys ts : List ℕ) (r q : Running) : Type 0 where
   pub vector : q .vector ≡ r .vector + n
   pub graded : (catches : ℕ → ℕ → Bool) → ((f i : ℕ) → i < n → catches f (r .vector + i) ≡ detectedBy ws c vs f i) → {ms os : List ℕ}

@@ -1,5 +1,5 @@
--- What the parts of the check tell their callers, of one graph: what is due, told of every list of words in which that is due. The check's own
--- contract cites none of these. Assumes nothing.
+-- What the parts of the check promise of one graph. A part is given what was due, a word or the end, and not the card: its promise is for every list of
+-- words in which that is due. The check's own contract cites none of these. Assumes nothing.
 use Prim.Native.Nat.{ℕ, _+_, _-_, _<_, _≤_}
 use mathlib.Core.Path.{_≡_}
 use mathlib.Core.List.{List}

@@ -1,5 +1,5 @@
--- What a row of a table of cases says: what the calls come to, by the definitions that their own contracts cite; and of a case and of a grading the same
--- by the marking rules of document 01. Assumes nothing.
+-- What a row of a table of cases says: what the calls give, by the definitions that their contracts cite; and for a case and a grading, that the marking
+-- rules of document 01 give the same. Assumes nothing.
 use Prim.Native.Nat.{ℕ, _+_, _-_, _*_, _/_, _%_}
 use mathlib.Core.Path.{_≡_}
 use mathlib.Core.List.{List, [], _∷_, map}

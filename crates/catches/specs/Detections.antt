@@ -1,4 +1,4 @@
--- What one vector's catches are told by: a word for each site. No contract of a call cites it. Assumes nothing.
+-- How a buffer tells what one vector catches: by a word for each site. No contract of a call cites it. Assumes nothing.
 use Prim.Native.Nat.{ℕ, _+_, _<_, _≤_}
 use mathlib.Core.Path.{_≡_}
 use mathlib.Core.List.{List}

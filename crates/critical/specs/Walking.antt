@@ -1,5 +1,5 @@
--- What a change walk that stops keeps and leaves. Its buffer has the graphs' values, then its list, and then the set of the graphs that are due. No
--- contract of a call cites it. Assumes nothing.
+-- The change walk that stops: what is so of its buffer on the way, and at the end. The buffer has the graphs' values, then the walk's list, and then the
+-- set of the graphs that are due. No contract of a call cites it. Assumes nothing.
 use Prim.Native.Nat.{ℕ, _+_, _-_, _<_, _≤_}
 use mathlib.Core.Path.{_≡_}
 use mathlib.Core.List.{List}

@@ -11,7 +11,7 @@ use Rattle.answers.specs.declared.Verdict.the-variants.{Sound}
 use Rattle.answers.specs.Tests.{firstBroken}
 use Rattle.faultlist.specs.Faults.{tooHigh, faultTests}
 
--- r numbers that are tested as the list in the bytes b is, and are the list where it passes
+-- the tests say of the r numbers at the front of `out` what they say of the list in the bytes b; and where that list passes, the numbers are the list
 pub record FaultsRead (b : List ℕ) (r : ℕ) (out : List ℕ) : Type 0 where
   pub fits : r ≤ length out
   pub tested : (extra room : ℕ) (c : Counts) → firstBroken (faultTests extra (take r out) room c) ≡ firstBroken (faultTests extra (wordsOf b) room c)

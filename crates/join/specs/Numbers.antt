@@ -1,4 +1,4 @@
--- What the functions that renumber ask of numbers, so that sums fit a word, and what they write. No contract of a call cites these. Assumes nothing.
+-- How low numbers must be for the renumbering functions, so that sums fit a word; and what these write. No contract of a call cites it. Assumes nothing.
 use Prim.Native.Nat.{ℕ, _+_, _≤_, _<_}
 use mathlib.Core.Path.{_≡_}
 use mathlib.Core.List.{List, _++_, map}

@@ -1,4 +1,4 @@
--- Lists made by a rule, and buffers whose front is so made. Assumes nothing.
+-- Lists made by a rule, and buffers with such a list at their front. Assumes nothing.
 use Prim.Native.Nat.{ℕ, zero, suc}
 use mathlib.Core.List.{List, [], _∷_, _++_}
 use mathlib.Core.Bool.{Bool, true, false}
@@ -29,7 +29,7 @@ unfoldable pub chain : (ℕ → List ℕ) → ℕ → List ℕ
 chain f zero = []
 chain f (suc n) = chain f n ++ f n
 
--- THE BUFFER FORM: the first n words are f 0 to f (n - 1), the rest as they were
+-- A BUFFER FILLED BY A RULE: the first n words are f 0 to f (n - 1), the rest as they were
 abbrev pub over : ℕ → (ℕ → ℕ) → List ℕ → List ℕ
 over n f buffer = tab f n ++ drop n buffer
 
@@ -46,6 +46,6 @@ unfoldable pub chosen : (ℕ → Bool) → ℕ → List ℕ
 chosen p zero = []
 chosen p (suc n) = chosen p n ++ onlyIf (p n) n
 
--- a buffer whose front is a list, and the rest as it was
+-- A BUFFER WITH A LIST AT ITS FRONT: first the words of the list, the rest as they were
 abbrev pub front : List ℕ → List ℕ → List ℕ
 front xs buffer = xs ++ drop (length xs) buffer

@@ -1,6 +1,6 @@
--- What the parts of the check of nodes tell their callers: a sound node's exits, and the table of named nodes. Each part is told what was due, and
--- answers for every list of words in which that is due; there is one for whatever is due (`reader`'s law `some-list`). The check's own contract cites
--- none of these. Assumes nothing.
+-- What the parts of the check of nodes promise: a sound node's exits, and the table of named nodes. A part is given what was due, a word or
+-- the end, and not the card: its promise is for every list of words in which that is due, and there is such a list (`reader`'s law `some-list`). The
+-- check's own contract cites none of these. Assumes nothing.
 use Prim.Native.Nat.{ℕ, zero, suc, _+_, _*_, _<_, _≤_}
 use mathlib.Core.Path.{_≡_}
 use mathlib.Core.List.{List}

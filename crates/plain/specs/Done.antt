@@ -1,4 +1,4 @@
--- What a call with faults that is done comes to: its contract and the meaning of its list together. No contract of a call cites it. Assumes nothing.
+-- What a call with a list of faults gives where it is done: values with all of them holding together. No contract of a call cites it. Assumes nothing.
 use Prim.Native.Nat.{ℕ}
 use mathlib.Core.Path.{_≡_}
 use Rattle.lists.specs.Tables.{tab}

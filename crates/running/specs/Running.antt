@@ -46,8 +46,8 @@ pub record Folded (t n : ℕ) (cs ms ts ms′ ts′ : List ℕ) : Type 0 where
 pub record TalliesUpTo (t low high : ℕ) (ts : List ℕ) : Type 0 where
   pub word : (f : ℕ) → low ≤ f → f < high → getD ts f 0 ≤ t
 
--- the running result counts the first n faults of two buffers: how many of those that count, by k, have a tally; and no tally is over the number of
--- vectors taken in
+-- The running result r belongs to the marks ms and the tallies ts of n faults: its marked count is how many of them count in the grade, by k, and have a
+-- tally over 0; and no tally is over the number of vectors taken in.
 pub record Counted (k : ℕ → Bool) (n : ℕ) (ms ts : List ℕ) (r : Running) : Type 0 where
   pub marks-long : n ≤ length ms
   pub tallies-long : n ≤ length ts
