@@ -5,12 +5,13 @@
 ghost use mathlib.Core.Path.{_≡_};
 ghost use Prim.Native.Nat.{_≤_};
 ghost use lib.ListN.{length};
-ghost use Rattle.report.specs.Report.{maxInput, maxText};
+ghost use Rattle.report.specs.Report.{maxInput};
+ghost use Rattle.textlines.specs.Text.{maxText};
 ghost use Rattle.cardgrade.specs.Reading.{bytesOf};
 use libc::STDIN_FILENO;
 use libc::STDOUT_FILENO;
 use report::MAX_INPUT;
-use report::MAX_TEXT;
+use textlines::MAX_TEXT;
 
 // What reading came to: so many bytes, as many as were wanted or all that there were; or a read failed.
 enum Reading {

@@ -30,7 +30,7 @@ use Rattle.testvectors.proofs.Lists.{bytes-alone}
 use Rattle.opening.specs.Opened.{openedList}
 use Rattle.detect.specs.Grading.{mark, tally, marked}
 use Rattle.grade.specs.Graded.{GradedList}
-use Rattle.report.specs.Text.{shortLine, longLine, refusedLine, faultLine, faultLines, gradingText}
+use Rattle.textlines.specs.Text.{shortLine, longLine, refusedLine, faultLine, faultLines, gradingText}
 use Rattle.report.specs.Report.{unlessBroken, ifAccepted, gradedText, wordCount, cardBytes, vectorBytes, textOf, bytesWanted}
 
 -- THE TEXT by its cases
@@ -154,14 +154,6 @@ unfolding gradingText
 grading-same c m m′ t t′ n k p q = rw (lines-same m m′ t t′ (c .faults) p q)
 
 -- one fault more
-pub lines-none : (m t : ℕ → ℕ) → faultLines m t 0 ≡ []
-unfolding faultLines
-lines-none m t = refl
-
-pub lines-next : (m t : ℕ → ℕ) (f : ℕ) → faultLines m t f ++ faultLine f (m f) (t f) ≡ faultLines m t (f + 1)
-unfolding faultLines
-lines-next m t f = rw add-one
-
 -- the text of a grading, from what it leaves in the buffers
 pub grading-told : {ws xs : List ℕ} {c : Counts} {b d ms ts : List ℕ} {n k : ℕ} → GradedList ws c xs n b d ms ts → k ≡ total ws c
     → gradingText c (λ f. getD ms f 0) (λ f. getD ts f 0) n k ≡ gradingText c (mark ws c xs) (tally ws c xs) (marked ws c xs) (total ws c)

@@ -12,7 +12,7 @@ use Rattle.value.specs.Settings.{faulty}
 use Rattle.value.specs.Values.{value}
 use Rattle.detect.specs.Grading.{mark, tally, marked}
 use Rattle.form.proofs.Examples.{S}
-use Rattle.report.specs.Text.{decimal, digits, cardLine, faultLine, faultLines, line, gradingText}
+use Rattle.textlines.specs.Text.{decimal, digits, cardLine, faultLine, faultLines, line, gradingText}
 use Rattle.report.specs.Report.{gradedText, textOf}
 
 -- the bytes read: the word count, S and the two vectors

@@ -7,7 +7,7 @@ use lib.ListN.{length, take, drop}
 use lib.Dec.{ltb, eqb}
 use Rattle.lists.specs.Counting.{choose}
 use Rattle.word32.specs.Bytes.{wordAt, wordsOf}
-use Rattle.answers.specs.Limits.{maxWords, maxFaults}
+use Rattle.answers.specs.Limits.{maxWords}
 use Rattle.answers.specs.declared.Counts.{Counts}
 use Rattle.answers.specs.declared.Verdict.{Verdict}
 use Rattle.answers.specs.declared.Verdict.the-variants.{Sound, Broken}
@@ -18,17 +18,14 @@ use Rattle.form.specs.Check.{checked}
 use Rattle.cardtables.specs.Stems.{total}
 use Rattle.testvectors.specs.Vectors.{listVerdict}
 use Rattle.detect.specs.Grading.{mark, tally, marked}
-use Rattle.report.specs.Text.{either, shortLine, longLine, refusedLine, gradingText}
+use Rattle.textlines.specs.Text.{either, shortLine, longLine, refusedLine, gradingText}
 
--- The most vector words that are taken, the most bytes that can decide, and the length of the longest text.
+-- The most vector words that are taken, and the most bytes that can decide.
 abbrev pub maxVectorWords : ℕ
 maxVectorWords = 16384
 
 abbrev pub maxInput : ℕ
 maxInput = 4 + 4 * maxWords + 4 * (maxVectorWords + 1)
-
-abbrev pub maxText : ℕ
-maxText = 28 * maxFaults + 160
 
 -- A text, or the line of the refusal that stands in its way. `numberOf` gives a rule its number: that of a list's rule is 10.
 abbrev pub unlessBroken : Verdict → List ℕ → List ℕ

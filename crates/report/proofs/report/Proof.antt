@@ -1,7 +1,7 @@
 -- `report::report` meets its contract. Assumes nothing.
 use Rattle.report.proofs.report.Tie as tie
 use Rattle.report.proofs.Cases.{text-none}
-use Rattle.report.proofs.Puts.{puts-front}
+use Rattle.textlines.proofs.Puts.{puts-front}
 use Rattle.report.proofs.report.Statement.{statement}
 use borrow.Author.Needs.{needs}
 

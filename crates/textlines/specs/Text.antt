@@ -1,8 +1,9 @@
 -- What cardgrade prints, as the codes of its characters: document 01, 'Card S and its neighbours'. Assumes nothing.
-use Prim.Native.Nat.{ℕ, zero, suc, _+_, _-_, _/_, _%_}
+use Prim.Native.Nat.{ℕ, zero, suc, _+_, _-_, _*_, _/_, _%_}
 use mathlib.Core.List.{List, [], _∷_, _++_}
 use mathlib.Core.Bool.{Bool, true, false}
 use lib.Dec.{ltb, eqb}
+use Rattle.answers.specs.Limits.{maxFaults}
 use Rattle.answers.specs.declared.Counts.{Counts}
 
 -- the first of two texts where the test holds, else the second
@@ -81,3 +82,7 @@ faultLines mark tally (suc f) = faultLines mark tally f ++ faultLine f (mark f) 
 -- THE TEXT OF A GRADING: the card, each fault, the grade. The last line alone leaves out the faults that do not count in the grade.
 unfoldable pub gradingText : Counts → (ℕ → ℕ) → (ℕ → ℕ) → ℕ → ℕ → List ℕ
 gradingText c mark tally marked total = cardLine c ++ faultLines mark tally (c .faults) ++ gradeLine marked total
+
+-- the length of the longest
+abbrev pub maxText : ℕ
+maxText = 28 * maxFaults + 160

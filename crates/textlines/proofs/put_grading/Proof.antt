@@ -1,8 +1,8 @@
--- `report::put_grading` meets its contract. Assumes nothing.
-use Rattle.report.proofs.put_grading.Tie as tie
-use Rattle.report.proofs.Puts.{puts-then}
-use Rattle.report.proofs.put_grading.Statement.{statement}
-use Rattle.report.specs.Text.{gradingText}
+-- `textlines::put_grading` meets its contract. Assumes nothing.
+use Rattle.textlines.proofs.put_grading.Tie as tie
+use Rattle.textlines.proofs.Puts.{puts-then}
+use Rattle.textlines.proofs.put_grading.Statement.{statement}
+use Rattle.textlines.specs.Text.{gradingText}
 use borrow.Author.Needs.{needs}
 
 returns : tie.Need-returns

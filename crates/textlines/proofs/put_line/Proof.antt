@@ -1,9 +1,9 @@
--- `report::put_line` meets its contract. Assumes nothing.
-use Rattle.report.proofs.put_line.Tie as tie
-use Rattle.report.proofs.Digits.{few-20}
-use Rattle.report.proofs.Puts.{puts-then}
-use Rattle.report.proofs.put_line.Statement.{statement}
-use Rattle.report.specs.Text.{line}
+-- `textlines::put_line` meets its contract. Assumes nothing.
+use Rattle.textlines.proofs.put_line.Tie as tie
+use Rattle.textlines.proofs.Digits.{few-20}
+use Rattle.textlines.proofs.Puts.{puts-then}
+use Rattle.textlines.proofs.put_line.Statement.{statement}
+use Rattle.textlines.specs.Text.{line}
 use borrow.Author.Needs.{needs}
 use native.Mathlib.Omega.{arith}
 

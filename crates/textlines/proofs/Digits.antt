@@ -7,7 +7,7 @@ use native.Mathlib.Nat.{pow-suc}
 use native.Mathlib.Decide.{decLt}
 use lib.ListN.{length, length-append}
 use borrow.Author.Tests.{lt-ltb, le-ltb}
-use Rattle.report.specs.Text.{digits, decimal}
+use Rattle.textlines.specs.Text.{digits, decimal}
 
 -- the bound does not matter where it is above the number
 digits-enough : (k j n : ℕ) → n < k → n < j → digits k n ≡ digits j n

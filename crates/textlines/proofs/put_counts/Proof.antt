@@ -1,8 +1,8 @@
--- `report::put_counts` meets its contract. Assumes nothing.
-use Rattle.report.proofs.put_counts.Tie as tie
-use Rattle.report.proofs.Digits.{few-20}
-use Rattle.report.proofs.Puts.{puts-then}
-use Rattle.report.proofs.put_counts.Statement.{statement}
+-- `textlines::put_counts` meets its contract. Assumes nothing.
+use Rattle.textlines.proofs.put_counts.Tie as tie
+use Rattle.textlines.proofs.Digits.{few-20}
+use Rattle.textlines.proofs.Puts.{puts-then}
+use Rattle.textlines.proofs.put_counts.Statement.{statement}
 use borrow.Author.Needs.{needs}
 use native.Mathlib.Omega.{arith}
 

@@ -1,14 +1,14 @@
--- `report::put_decimal`, which calls itself for the digits before the last, meets its contract. The falling number is the one whose digits are put. Assumes
+-- `textlines::put_decimal`, which calls itself for the digits before the last, meets its contract. The falling number is the one whose digits are put. Assumes
 -- nothing.
-use Rattle.report.proofs.+put_decimal.Lts-put_decimal as put-decimal-lts
-use Rattle.report.proofs.put_decimal.Kinds as put-decimal-kinds
-use Rattle.report.proofs.put_decimal.Reads as put-decimal
-use Rattle.report.proofs.put_digit.Reads as put-digit-reads
+use Rattle.textlines.proofs.+put_decimal.Lts-put_decimal as put-decimal-lts
+use Rattle.textlines.proofs.put_decimal.Kinds as put-decimal-kinds
+use Rattle.textlines.proofs.put_decimal.Reads as put-decimal
+use Rattle.textlines.proofs.put_digit.Reads as put-digit-reads
 use Prim.Native.Nat.{ℕ, _<_}
-use Rattle.report.proofs.+put_decimal.{statement}
-use Rattle.report.proofs.+put_decimal.Tie.{close}
-use Rattle.report.proofs.Digits.{decimal-last, decimal-more, length-last, length-more}
-use Rattle.report.proofs.Puts.{puts-then}
+use Rattle.textlines.proofs.+put_decimal.{statement}
+use Rattle.textlines.proofs.+put_decimal.Tie.{close}
+use Rattle.textlines.proofs.Digits.{decimal-last, decimal-more, length-last, length-more}
+use Rattle.textlines.proofs.Puts.{puts-then}
 use borrow.Author.Needs.{needs}
 use borrow.Fn.Kinds.{In}
 use borrow.Fn.PlainCycle.{Measures, is, falls, and}

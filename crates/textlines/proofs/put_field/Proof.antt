@@ -1,7 +1,7 @@
--- `report::put_field` meets its contract. Assumes nothing.
-use Rattle.report.proofs.put_field.Tie as tie
-use Rattle.report.proofs.Puts.{puts-then}
-use Rattle.report.proofs.put_field.Statement.{statement}
+-- `textlines::put_field` meets its contract. Assumes nothing.
+use Rattle.textlines.proofs.put_field.Tie as tie
+use Rattle.textlines.proofs.Puts.{puts-then}
+use Rattle.textlines.proofs.put_field.Statement.{statement}
 use borrow.Author.Needs.{needs}
 
 returns : tie.Need-returns

@@ -1,9 +1,9 @@
--- `report::put_fault` meets its contract. Assumes nothing.
-use Rattle.report.proofs.put_fault.Tie as tie
-use Rattle.report.proofs.Digits.{few-5, few-10}
-use Rattle.report.proofs.Puts.{puts-then}
-use Rattle.report.proofs.put_fault.Statement.{statement}
-use Rattle.report.specs.Text.{faultLine}
+-- `textlines::put_fault` meets its contract. Assumes nothing.
+use Rattle.textlines.proofs.put_fault.Tie as tie
+use Rattle.textlines.proofs.Digits.{few-5, few-10}
+use Rattle.textlines.proofs.Puts.{puts-then}
+use Rattle.textlines.proofs.put_fault.Statement.{statement}
+use Rattle.textlines.specs.Text.{faultLine}
 use borrow.Author.Needs.{needs}
 use native.Mathlib.Omega.{arith}
 

@@ -1,9 +1,9 @@
--- `report::put` meets its contract. The invariant: the first i bytes are in, and all others as they were. Assumes nothing.
-use Rattle.report.proofs.put.Tie as tie
+-- `textlines::put` meets its contract. The invariant: the first i bytes are in, and all others as they were. Assumes nothing.
+use Rattle.textlines.proofs.put.Tie as tie
 use Prim.Native.Nat.{_≤_, _-_, _+_}
-use Rattle.report.proofs.Puts.{puts-none, puts-next, puts-all}
-use Rattle.report.proofs.put.Statement.{statement}
-use Rattle.report.specs.Puts.{Puts}
+use Rattle.textlines.proofs.Puts.{puts-none, puts-next, puts-all}
+use Rattle.textlines.proofs.put.Statement.{statement}
+use Rattle.textlines.specs.Puts.{Puts}
 use borrow.Author.Needs.{needs}
 use lib.ListN.{length, take, length-set}
 use mathlib.Core.Path.{_≡_, refl}

@@ -1,7 +1,7 @@
--- `report::put_digit` meets its contract. Assumes nothing.
-use Rattle.report.proofs.put_digit.Tie as tie
-use Rattle.report.proofs.Puts.{puts-one}
-use Rattle.report.proofs.put_digit.Statement.{statement}
+-- `textlines::put_digit` meets its contract. Assumes nothing.
+use Rattle.textlines.proofs.put_digit.Tie as tie
+use Rattle.textlines.proofs.Puts.{puts-one}
+use Rattle.textlines.proofs.put_digit.Statement.{statement}
 use borrow.Author.Needs.{needs}
 
 returns : tie.Need-returns

@@ -1,8 +1,8 @@
--- `report::put_card` meets its contract. Assumes nothing.
-use Rattle.report.proofs.put_card.Tie as tie
-use Rattle.report.proofs.Puts.{puts-then}
-use Rattle.report.proofs.put_card.Statement.{statement}
-use Rattle.report.specs.Text.{cardLine}
+-- `textlines::put_card` meets its contract. Assumes nothing.
+use Rattle.textlines.proofs.put_card.Tie as tie
+use Rattle.textlines.proofs.Puts.{puts-then}
+use Rattle.textlines.proofs.put_card.Statement.{statement}
+use Rattle.textlines.specs.Text.{cardLine}
 use borrow.Author.Needs.{needs}
 use native.Mathlib.Omega.{arith}
 

@@ -8,7 +8,7 @@ use native.Mathlib.Numerals.{add-one}
 use lib.ListN.{length, getD, set, take, drop, length-append, length-set}
 use lib.Seq.{sets-eq, take-suc, take-length}
 use Rattle.lists.specs.Tables.{front}
-use Rattle.report.specs.Puts.{placed, Puts}
+use Rattle.textlines.specs.Puts.{placed, Puts}
 
 placed-more : (at : ℕ) (xs ys d : List ℕ) → placed (at + length xs) ys (placed at xs d) ≡ placed at (xs ++ ys) d
 unfolding placed

@@ -1,7 +1,7 @@
--- `report::put_mark` meets its contract. Assumes nothing.
-use Rattle.report.proofs.put_mark.Tie as tie
-use Rattle.report.proofs.Digits.{few-10}
-use Rattle.report.proofs.put_mark.Statement.{statement}
+-- `textlines::put_mark` meets its contract. Assumes nothing.
+use Rattle.textlines.proofs.put_mark.Tie as tie
+use Rattle.textlines.proofs.Digits.{few-10}
+use Rattle.textlines.proofs.put_mark.Statement.{statement}
 use borrow.Author.Needs.{needs}
 use borrow.Author.Tests.{eq-eqb, ne-eqb}
 use native.Mathlib.Omega.{arith}

@@ -1,11 +1,11 @@
--- `report::put_faults` meets its contract. The invariant: the lines of the faults below f are in. Assumes nothing.
-use Rattle.report.proofs.put_faults.Tie as tie
+-- `textlines::put_faults` meets its contract. The invariant: the lines of the faults below f are in. Assumes nothing.
+use Rattle.textlines.proofs.put_faults.Tie as tie
 use Prim.Native.Nat.{_≤_, _-_, _+_, _*_}
-use Rattle.report.proofs.Cases.{lines-none, lines-next}
-use Rattle.report.proofs.Puts.{puts-none, puts-then}
-use Rattle.report.proofs.put_faults.Statement.{statement}
-use Rattle.report.specs.Puts.{Puts}
-use Rattle.report.specs.Text.{faultLines}
+use Rattle.textlines.proofs.Lines.{lines-none, lines-next}
+use Rattle.textlines.proofs.Puts.{puts-none, puts-then}
+use Rattle.textlines.proofs.put_faults.Statement.{statement}
+use Rattle.textlines.specs.Puts.{Puts}
+use Rattle.textlines.specs.Text.{faultLines}
 use borrow.Author.Needs.{needs}
 use lib.ListN.{length, getD}
 use mathlib.Core.Path.{_≡_, refl}

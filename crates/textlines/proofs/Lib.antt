@@ -1,0 +1,4 @@
+-- The laws that the proofs of functions cite, each stated once.
+pub mod Puts
+mod Digits
+mod Lines
