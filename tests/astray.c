@@ -1,6 +1,8 @@
 /* astray.c: for each of the four ways in which a grade goes astray (document 01) a card on which the
  * wrong rule gives another answer. The marking rules stand here once, with the wrong turns as cases:
- * way 0 is right, way 1 to 4 are the four of the document, in its order.
+ * way 0 is right, way 1 to 4 are the four of the document, in its order. The prover refuses the same
+ * four, on the same cards: crates/rules/must-fail has them as edits of the rules, only_graph_left,
+ * other_good_exits, both_faults_marked and readers_of_observable_left.
  */
 #include "astray.h"
 
