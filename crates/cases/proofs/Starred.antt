@@ -17,9 +17,13 @@ use Rattle.plain.specs.Calls.{goodTests}
 use Rattle.faultlist.specs.Faults.{faultTests}
 use Rattle.changes.specs.Calls.{changeTests, criticalTests}
 use Rattle.grade.specs.Calls.{gradeTests}
+use Rattle.wiring.specs.Calls.{countedOn}
+use Rattle.wiring.specs.Joined.{joinTests}
+use Rattle.gatelist.specs.Form.{gatesCheckedWith}
 use Rattle.cases.specs.Starred.{Starred}
 use Rattle.cases.specs.Leads.{Leads}
 use Rattle.cases.specs.Several.{Several}
+use Rattle.cases.specs.Orders.{Orders}
 
 -- one row, and those after it
 infixr 20 _also_
@@ -54,5 +58,14 @@ pub several-hold : Several
 unfolding checkedWith outcome following lentForm replyTold faultTests vectorVerdict isInput observable size reads exits decides bit faulty value Forall
 several-hold =
     (refl, refl) also (refl, refl) also (refl, refl) also (refl, refl) also (refl, refl) also (refl, refl) also (refl, refl) also (refl, refl) also (refl, refl)
-    also (refl, refl) also (refl, refl) also (refl, refl) also (refl, refl) also (refl, refl) also (refl, refl) also (refl, refl) also (refl, refl) also (refl, refl)
-    also (refl, refl)
+    also (refl, refl) also (refl, refl, refl) also (refl, refl, refl) also (refl, refl, refl) also (refl, refl, refl) also (refl, refl, refl)
+    also (refl, refl, refl) also (refl, refl, refl) also (refl, refl, refl) also (refl, refl, refl)
+
+pub orders-hold : Orders
+unfolding checkedWith outcome following countedOn joinTests gatesCheckedWith lentForm replyTold goodTests faultTests changeTests criticalTests gradeTests
+    vectorVerdict listVerdict Forall
+orders-hold =
+    (refl, refl, refl) also (refl, refl, refl) also (refl, refl, refl) also (refl, refl, refl) also (refl, refl, refl) also (refl, refl, refl)
+    also (refl, refl, refl) also (refl, refl, refl) also (refl, refl, refl) also (refl, refl, refl) also (refl, refl, refl) also (refl, refl, refl)
+    also (refl, refl, refl) also (refl, refl, refl) also (refl, refl, refl) also (refl, refl, refl) also (refl, refl, refl) also (refl, refl, refl)
+    also (refl, refl, refl) also (refl, refl, refl) also (refl, refl, refl) also (refl, refl, refl) also (refl, refl, refl) also (refl, refl, refl)

@@ -2,3 +2,4 @@ pub mod Rows
 pub mod Starred
 pub mod Leads
 pub mod Several
+pub mod Orders

@@ -53,13 +53,10 @@ pub record Faulted : Type 0 where
   pub faults : List ℕ
   pub values : List ℕ
 
--- and a list that is refused, with a buffer of so many words: the refusal's number, its position being 0
+-- any call that is refused: what it comes to, and the refusal's number and position
 pub record Refused : Type 0 where
-  pub card : List ℕ
-  pub under : List ℕ
-  pub faults : List ℕ
-  pub room : ℕ
-  pub number : ℕ
+  pub call : Outcome
+  pub told : Told
 
 -- one graph of a card under each of some vectors: what it computes from the bits of the inputs
 pub record Function : Type 0 where
@@ -84,6 +81,10 @@ numbers n = tab (λ i. i) n
 -- a word, 1 where the test holds, else 0
 abbrev pub flag : Bool → ℕ
 flag b = choose b 1 0
+
+-- a call, refused by the rule of this number at the position
+abbrev pub refused-as : Outcome → ℕ → ℕ → Row
+refused-as call number position = refused (record { call = call; told = refusal number position })
 
 -- a call that is done, tells the number and gives its buffers the words ws and vs
 abbrev pub doneBoth : ℕ → List ℕ → List ℕ → Outcome
@@ -165,11 +166,9 @@ FaultedHolds r =
     (checked ws ≡ Accepted (r .counts))
     × (faultOutcome (whole ws) (whole x) (whole (r .faults)) n ≡ done 0 (r .values))
 
--- a refusal holds by the call, which gives its buffer no word
+-- a refusal holds by the call, which gives its buffers no word
 abbrev pub RefusedHolds : Refused → Type 0
-RefusedHolds r =
-    let o = faultOutcome (whole (r .card)) (whole (r .under)) (whole (r .faults)) (r .room) in
-    (replyTold (o .reply) ≡ refusal (r .number) 0) × (o .words ≡ [])
+RefusedHolds r = (replyTold (r .call .reply) ≡ r .told) × (r .call .words ≡ []) × (r .call .more ≡ [])
 
 -- WHAT A ROW SAYS
 abbrev pub Holds : Row → Type 0

@@ -3,7 +3,9 @@ use Prim.Native.Nat.{ℕ}
 use mathlib.Core.List.{List, [], _∷_}
 use mathlib.Mathlib.Data.List.Defs.{Forall}
 use Rattle.answers.specs.declared.Counts.{Counts}
-use Rattle.cases.specs.Rows.{Row, faulted, refused, Holds}
+use Rattle.answers.specs.Calls.{whole}
+use Rattle.plain.specs.Calls.{faultOutcome}
+use Rattle.cases.specs.Rows.{Row, faulted, refused-as, Holds}
 use Rattle.cases.specs.Starred.{S, countsS}
 
 -- Graph 2 is the exclusive or of the inputs 0 and 1: node 0 reads input 0, and sends on to node 1 or 2, which read input 1. Faults 6 and 7 hold input 0,
@@ -26,7 +28,7 @@ abbrev pub with-in : List ℕ → Counts → ℕ → List ℕ → List ℕ → R
 with-in card counts x faults values = faulted (record { card = card; counts = counts; under = x ∷ []; faults = faults; values = values })
 
 abbrev pub refused-by : List ℕ → ℕ → List ℕ → ℕ → Row
-refused-by card number faults room = refused (record { card = card; under = 0xA0000000 ∷ []; faults = faults; room = room; number = number })
+refused-by card number faults room = refused-as (faultOutcome (whole card) (whole (0xA0000000 ∷ [])) (whole faults) room) number 0
 
 abbrev pub several : List Row
 several =

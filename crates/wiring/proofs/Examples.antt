@@ -105,7 +105,7 @@ try A B wires room told = record { first = A; second = B; wires = wires; room = 
 abbrev pub orders : List Tried
 orders =
     try countsS countsS [] 17 (refusal 13 0)
-    ∷ try countsS countsF (9 ∷ 9 ∷ []) 0 (refusal 13 0)
+    ∷ try countsS countsF (0 ∷ 9 ∷ []) 0 (refusal 13 0)
     ∷ try countsS countsF (2 ∷ 3 ∷ 9 ∷ []) 0 (refusal 13 1)
     ∷ try countsS countsF (0xFFFFFFFF ∷ 0 ∷ 0xFFFFFFFE ∷ []) 17 (refusal 13 2)
     ∷ try (counts 1 1023 1022 1) countsS (1023 ∷ []) 0 (refusal 13 0)
@@ -123,6 +123,6 @@ tried t =
     let w = work (joinTests (t .first) (t .second) (t .wires) n (t .room)) n [] in
     try (t .first) (t .second) (t .wires) (t .room) (replyTold (outcomeBy (firstBroken (w .tests)) w .reply))
 
-pub examples : (map answered table ≡ table) × (map tried orders ≡ orders)
+pub join-examples : (map answered table ≡ table) × (map tried orders ≡ orders)
 unfolding joined joinTests checkedWith answerTold replyTold
-examples = (refl, refl)
+join-examples = (refl, refl)
