@@ -57,7 +57,7 @@ orders =
     ∷ refused-as (changeOutcome (whole S) (whole (zeros ∷ [])) 3 2) 11 0
     ∷ refused-as (faultOutcome (whole S) (whole (zeros ∷ [])) (lent (12 ∷ []) 1) 3) 11 0
     ∷ refused-as (faultOutcome (whole S) (whole (zeros ∷ [])) (lent (6 ∷ []) 1) 2) 17 0
-    -- 12 of the marks before 12 of the tallies
+    -- 12 of the marks before 12 of the tallies, which alone is told at 1
     ∷ refused-as (gradeOutcome (whole S) (whole (zeros ∷ [])) 11 11) 12 0
     ∷ refused-as (gradeOutcome (whole S) (whole (zeros ∷ [])) 12 11) 12 1
     -- 9 before 12, of a card's check and of a gate list

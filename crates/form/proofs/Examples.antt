@@ -1,5 +1,5 @@
--- The check's definition on document 01's examples of refusals 1 to 9, in the order of its table, on words that break two rules at once, each pair that
--- document 01's order has side by side, and on inverted reads, by computing. Assumes nothing.
+-- The check's definition on document 01's examples of refusals 1 to 9, in the order of its table, on cards that break two rules that stand side by side in
+-- document 01's order, and on inverted reads, by computing. Assumes nothing.
 use Prim.Native.Nat.{ℕ, _-_}
 use mathlib.Core.List.{List, [], _∷_, _++_, map}
 use mathlib.Core.Path.{_≡_, refl}
@@ -39,6 +39,7 @@ table =
     ∷ check (0 ∷ 0x40000002 ∷ 0x60000000 ∷ 0x80000001 ∷ 0x60000000 ∷ 0x80000001 ∷ []) 0 (refusal 8 1)
     ∷ check (0 ∷ []) 0 (refusal 9 1)
     ∷ check [] 0 (refusal 9 0)
+    ∷ check S 1 (refusal 4 9)
     ∷ []
 
 -- a graph of two nodes of which no exit names the second, rule 8, with the header w
@@ -66,13 +67,13 @@ twice-broken =
     ∷ check (0 ∷ 0x40011001 ∷ []) 0 (refusal 5 1)
     ∷ check (0 ∷ 0x40000001 ∷ 0x60020001 ∷ 0x80000001 ∷ []) 0 (refusal 5 2)
     ∷ check (0 ∷ 0x40000001 ∷ 0x60000000 ∷ 0x90000002 ∷ []) 0 (refusal 5 3)
-    -- an earlier word before a later one: 3 at a header, 6 at a read and 7 at exits before 4 at the next word; 6 and 7 before the end inside a graph
+    -- an earlier word before a later one: 3 at a header, 6 at a read and 7 at exits before 4 at the next word; 6 and 7 before the end inside a graph (4)
     ∷ check (0 ∷ 0x40000000 ∷ 0x60000000 ∷ []) 0 (refusal 3 1)
     ∷ check (0 ∷ 0x40000001 ∷ 0x60000001 ∷ 0x60000000 ∷ []) 0 (refusal 6 2)
     ∷ check (0 ∷ 0x40000002 ∷ 0x60000000 ∷ 0x80000002 ∷ 0x80000001 ∷ []) 0 (refusal 7 3)
     ∷ check (0 ∷ 0x40000001 ∷ 0x60000001 ∷ []) 0 (refusal 6 2)
     ∷ check (0 ∷ 0x40000002 ∷ 0x60000000 ∷ 0x80000002 ∷ []) 0 (refusal 7 3)
-    -- 8 after the graph's last word: 7 at that word comes first, and so does the end before it
+    -- 8 after the graph's last word: 7 at that word comes first, and so does the end before it (4)
     ∷ check (0 ∷ 0x40000002 ∷ 0x60000000 ∷ 0x80000001 ∷ 0x60000000 ∷ 0x80000003 ∷ []) 0 (refusal 7 5)
     ∷ check (0 ∷ 0x40000002 ∷ 0x60000000 ∷ 0x80000001 ∷ 0x60000000 ∷ []) 0 (refusal 4 5)
     -- and before the next word's: 4, 5 and 3; before bytes left over (4), and before 9
@@ -84,7 +85,6 @@ twice-broken =
     -- every word's before bytes left over, and these before 9
     ∷ check (1 ∷ []) 3 (refusal 5 0)
     ∷ check (0 ∷ []) 1 (refusal 4 1)
-    ∷ check S 1 (refusal 4 9)
     ∷ []
 
 -- A card, what the check has counted of it so far, and what it tells from there on. Where 1,024 graphs are counted, this takes far less computing than the
