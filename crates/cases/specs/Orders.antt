@@ -6,7 +6,7 @@ use mathlib.Core.List.{List, [], _∷_, _++_}
 use mathlib.Mathlib.Data.List.Defs.{Forall}
 use lib.ListN.{replicate}
 use Rattle.answers.specs.Calls.{lent, whole}
-use Rattle.cardcheck.specs.Calls.{checkOutcome}
+use Rattle.cardcounts.specs.Calls.{checkOutcome}
 use Rattle.plain.specs.Calls.{goodOutcome, faultOutcome}
 use Rattle.changes.specs.Calls.{changeOutcome, criticalOutcome}
 use Rattle.grade.specs.Calls.{gradeOutcome}
