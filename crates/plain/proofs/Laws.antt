@@ -72,10 +72,17 @@ module _ (t : Run) {firsts : List ℕ} (y : Ready (t .card) (t .counts) firsts) 
     pub node-known : {xs : List ℕ} {r : ℕ} → Saved t xs → r ≡ getD xs (f + k) 0 → r < 2 → FoundNode t g k r xs
     node-known {xs} s q b =
         let z = q ∙ ap (λ (n : ℕ). getD xs n 0) (node-number (walkable y h) l e) in
-        record { right = z ∙ s .nodes g k h l (rw z at b); saved = s }
+        let w = s .nodes g k h l (rw z at b) in
+        record { right = z ∙ w; there = w; saved = s }
 
     pub node-saved : {xs ys : List ℕ} {v : ℕ} → Saved t xs → v ≡ nodeOf t g k → ys ≡ set xs (f + k) v → FoundNode t g k v ys
-    node-saved s w u = record { right = w; saved = rw (u, node-number (walkable y h) l e) (save-node s g k _ h l w) }
+    node-saved {xs} {ys} {v} s w u =
+        let p = first (t .card) g + k in
+        let z = rw (node-number (walkable y h) l e) at u in record {
+          right = w;
+          there = rw z (getD-set-same xs p v 0 (omega (arith, node-below (y .shape) g k h l, s .long)) ∙ w);
+          saved = rw z (save-node s g k v h l w);
+        }
 
     -- its decision, once the graph that it reads is found
     pub decision-found : {r v d : ℕ} {xs : List ℕ} → r ≡ readGraph (getD (t .card) (g + 1 + 2 * (f + k)) 0) → FoundGraph t r v xs

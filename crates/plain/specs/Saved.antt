@@ -13,12 +13,13 @@ pub record Saved (t : Run) (xs : List ℕ) : Type 0 where
       → getD xs (first (t .card) g + k) 0 ≡ nodeOf t g k
   pub graphs : (g : ℕ) → g < t .counts .graphs → getD xs (t .counts .nodes + g) 0 < 2 → getD xs (t .counts .nodes + g) 0 ≡ graphOf t g
 
--- what an evaluator hands back: the value of a node, and the buffer with all that was found
+-- what an evaluator hands back: the value of a node, which now stands at the node's site, and the buffer with all that was found
 pub record FoundNode (t : Run) (g k r : ℕ) (xs : List ℕ) : Type 0 where
   pub right : r ≡ nodeOf t g k
+  pub there : getD xs (first (t .card) g + k) 0 ≡ nodeOf t g k
   pub saved : Saved t xs
 
--- the same of a graph, whose value stands at its site
+-- the same of a graph
 pub record FoundGraph (t : Run) (g r : ℕ) (xs : List ℕ) : Type 0 where
   pub right : r ≡ graphOf t g
   pub there : getD xs (t .counts .nodes + g) 0 ≡ graphOf t g

@@ -24,7 +24,7 @@ use answers::MAX_SITES;
 use answers::Reply;
 use answers::Verdict;
 
-// The value of local node k of graph g.
+// The value of local node k of graph g, which then stands at the node's site.
 fn node_value(
     card: &[u32],
     c: Counts,
