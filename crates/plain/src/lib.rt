@@ -36,7 +36,7 @@ fn node_value(
     saved: &mut [u32],
 ) -> u32
     requires { ⌜ Ready (now card) c (now firsts) × Wide (c .inputs) (now vector) × (g < c .graphs) × (k < size (now card) g) × Saved (run (now card) c (now faults) (now vector)) (now saved) ⌝ }
-    ensures { λ r. ⌜ FoundNode (run (now (card .entry)) c (now (faults .entry)) (now (vector .entry))) g k r (now (saved .exit)) ⌝ }
+    ensures { λ r. ⌜ FoundNode (run (now (card .entry)) c (now (faults .entry)) (now (vector .entry))) g k r (now (saved .entry)) (now (saved .exit)) ⌝ }
 {
     let j = layout::first_node(firsts, g) + k;
     let known = lists::get(saved, j);
@@ -67,7 +67,7 @@ fn graph_value(
     saved: &mut [u32],
 ) -> u32
     requires { ⌜ Ready (now card) c (now firsts) × Wide (c .inputs) (now vector) × (g < c .graphs) × Saved (run (now card) c (now faults) (now vector)) (now saved) ⌝ }
-    ensures { λ r. ⌜ FoundGraph (run (now (card .entry)) c (now (faults .entry)) (now (vector .entry))) g r (now (saved .exit)) ⌝ }
+    ensures { λ r. ⌜ FoundGraph (run (now (card .entry)) c (now (faults .entry)) (now (vector .entry))) g r (now (saved .entry)) (now (saved .exit)) ⌝ }
 {
     let site = c.nodes + g;
     let known = lists::get(saved, site);

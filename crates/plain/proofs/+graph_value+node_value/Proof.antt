@@ -1,15 +1,14 @@
 -- `plain::graph_value` and `plain::node_value`, which call each other, meet their contracts. The falling number: a graph stands above its own nodes, and
 -- a node above the later nodes of its graph and above every lower graph. Each answer cites one law of `Laws`. Assumes nothing.
 use Prim.Native.Nat.{ℕ, _<_, _+_, _*_, _-_}
-use mathlib.Core.Path.{sym}
 use native.Mathlib.Omega.{arith}
 use borrow.Author.Needs.{needs}
 use Rattle.layout.specs.Layout.{size}
 use Rattle.layout.proofs.NodeNumbers.{walkable, few-nodes, some-node, node-inside, read-below, node-number-below}
 use Rattle.value.specs.Settings.{faulty}
 use Rattle.value.specs.Run.{run}
-use Rattle.value.proofs.Run.{node-ends, node-goes}
-use Rattle.plain.proofs.Laws.{node-known, node-saved, decision-found, graph-known, graph-saved, input-value, output-value}
+use Rattle.value.proofs.Run.{node-goes}
+use Rattle.plain.proofs.Laws.{node-known, node-ended, node-went, decision-found, graph-known, input-saved, output-saved}
 use borrow.Fn.Kinds.{In}
 use borrow.Fn.PlainCycle.{Measures, is, falls, and}
 use Rattle.plain.proofs.graph_value.Reads as graph-value
@@ -110,7 +109,7 @@ pub +graph-value+node-value-spec : {M : Type 1} → statement M
     let at-struct-known = at-if2 .before .before .before .before .before in
     let start = at-struct-known .before .before .before .before .before .before in
     let p = start .pre .1 in
-    graph-saved _ (p .0) (p .2) (p .3) (input-value _ (p .0) (p .2) (at-if2 .if2 .taken) (at-bit .bit .ensures) (at-set-at .set-at .ensures)) (at-put .put .ensures))
+    input-saved _ (p .0) (p .2) (p .3) (at-if2 .if2 .taken) (at-bit .bit .ensures) (at-set-at .set-at .ensures) (at-put .put .ensures))
     -- graph-value-node-value-requires
     (λ c κs.
     let at-if2 = c .before in
@@ -137,10 +136,9 @@ pub +graph-value+node-value-spec : {M : Type 1} → statement M
     let at-struct-known = at-if2 .before .before .before .before .before in
     let start = at-struct-known .before .before .before .before .before .before in
     let p = start .pre .1 in
-    let f = at-node-value .node-value .ensures in
     let a = start .args in
     let t = run (a .card .now) (a .c) (a .faults .now) (a .vector .now) in
-    graph-saved t (p .0) (p .2) (f .saved) (output-value t (p .0) (p .2) (at-if2 .if2 .left) (f .right) (at-set-at2 .set-at2 .ensures)) (at-put2 .put2 .ensures)))
+    output-saved t (p .0) (p .2) (at-if2 .if2 .left) (at-node-value .node-value .ensures) (at-set-at2 .set-at2 .ensures) (at-put2 .put2 .ensures)))
     λ t. node-value-lts.spec (
       first-node-reads.Asked,
       first-node-reads.Learnt,
@@ -244,8 +242,8 @@ pub +graph-value+node-value-spec : {M : Type 1} → statement M
     let v = at-graph-value .graph-value .ensures in
     let a = start .args in
     let t = run (a .card .now) (a .c) (a .faults .now) (a .vector .now) in
-    let d = decision-found t (p .0) (p .2) (p .3) f (at-graph-read .graph-read .ensures) v (at-decision .decision .ensures) in
-    node-saved t (p .0) (p .2) (p .3) f (v .saved) (node-ends (p .0) (p .2) (p .3) f (faulty (a .faults .now)) (a .vector .now) d (at-exit-taken .exit-taken .ensures) (at-if2 .if2 .taken)) (at-put .put .ensures))
+    node-ended t (p .0) (p .2) (p .3) f (at-graph-read .graph-read .ensures) v (at-decision .decision .ensures) (at-exit-taken .exit-taken .ensures)
+    (at-if2 .if2 .taken) (at-put .put .ensures))
     -- node-value-node-value-requires
     (λ c κs.
     let at-if2 = c .before in
@@ -287,9 +285,7 @@ pub +graph-value+node-value-spec : {M : Type 1} → statement M
     let p = start .pre .1 in
     let f = at-first-node .first-node .ensures in
     let v = at-graph-value .graph-value .ensures in
-    let w = at-node-value .node-value .ensures in
     let a = start .args in
     let t = run (a .card .now) (a .c) (a .faults .now) (a .vector .now) in
-    let d = decision-found t (p .0) (p .2) (p .3) f (at-graph-read .graph-read .ensures) v (at-decision .decision .ensures) in
-    let n = node-goes (p .0) (p .2) (p .3) f (faulty (a .faults .now)) (a .vector .now) d (at-exit-taken .exit-taken .ensures) (at-if2 .if2 .left) in
-    node-saved t (p .0) (p .2) (p .3) f (w .saved) (rw (w .right) (sym (n .2))) (at-put2 .put2 .ensures))
+    node-went t (p .0) (p .2) (p .3) f (at-graph-read .graph-read .ensures) v (at-decision .decision .ensures) (at-exit-taken .exit-taken .ensures)
+    (at-if2 .if2 .left) (at-node-value .node-value .ensures) (at-put2 .put2 .ensures))
