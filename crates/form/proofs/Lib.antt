@@ -1,6 +1,5 @@
 -- What sound verdicts and an accepting check tell, the same the other way round, where refusals stand, and document 01's worked examples.
 pub mod Verdicts
-pub mod Direct
 pub mod Checked
 pub mod Sound
 pub mod Graphs

@@ -28,7 +28,7 @@ module _ (ws : List ℕ) where
   unfolding count first
   from-none extra left = refl
 
-  upTo-next : (g : ℕ) → withGraph (header ws g) (upTo g) ≡ upTo (suc g)
+  pub upTo-next : (g : ℕ) → withGraph (header ws g) (upTo g) ≡ upTo (suc g)
   unfolding count first isInput observable
   upTo-next g = rw (add-one g)
 

@@ -26,7 +26,8 @@ use Rattle.grade.specs.Calls.{gradeWork}
 use Rattle.former.specs.Check.{formerLentCheck}
 use Rattle.former.specs.Reads.{NoneInverted}
 use Rattle.former.specs.Calls.{formerValuesWork, formerChangeWork, formerCriticalWork, formerGradeWork, CallsAsBefore}
-use Rattle.former.proofs.Check.{check-as-before, direct-none, none-direct, accepted-before}
+use Rattle.former.proofs.Check.{check-as-before}
+use Rattle.former.proofs.Accepted.{none-direct, direct-none, accepted-before}
 
 -- what each call does with an accepted card of which all is as before
 module _ {ws : List ℕ} {c : Counts} (a : AsBefore ws c) where
