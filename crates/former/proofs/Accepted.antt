@@ -139,9 +139,10 @@ module _ (ws : List ℕ) where
         let there : headerAt ws g < length ws = omega arith in
         let (s, later) = onward-accepts (formerGraph ws (before ws g)) _ d (rw (lt-leb (length ws) (headerAt ws g) there) at e) in
         let (now, direct) = graph-direct (before ws g) s in
-        let (all, ds) = rest-direct extra left (suc g) d later in
-        (rw (lt-leb (length ws) (headerAt ws g) there) (accepts-onward now all),
-        λ h k i m. elim (ℕ-discrete h g) [ yes z ↦ rw z (direct k) | no o ↦ ds h k (omega arith) m ])
+        let (all, ds) = rest-direct extra left (suc g) d later in (
+          rw (lt-leb (length ws) (headerAt ws g) there) (accepts-onward now all),
+          λ h k i m. elim (ℕ-discrete h g) [ yes z ↦ rw z (direct k) | no o ↦ ds h k (omega arith) m ],
+        )
   ]
 
   -- A CARD THAT WAS ACCEPTED is accepted with the same counts, and has no inverted read
