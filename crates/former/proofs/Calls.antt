@@ -1,6 +1,6 @@
 -- EVERY CALL ON A CARD WITH NO INVERTED READ COMES TO WHAT IT CAME TO, refused or not, by words or in bytes. Assumes nothing.
 use Prim.Native.Nat.{ℕ}
-use mathlib.Core.Path.{_≡_, ap, fun-ext, _∙_}
+use mathlib.Core.Path.{_≡_, refl, ap, fun-ext, _∙_}
 use mathlib.Core.List.{List}
 use mathlib.Core.Bool.{Bool}
 use Rattle.lists.specs.Counting.{choose}
@@ -8,24 +8,29 @@ use Rattle.lists.proofs.Tables.{tab-same}
 use Rattle.answers.specs.declared.Counts.{Counts}
 use Rattle.answers.specs.declared.Verdict.{Verdict}
 use Rattle.answers.specs.declared.Answer.{Answer}
-use Rattle.answers.specs.declared.Answer.the-variants.{Accepted}
+use Rattle.answers.specs.declared.Answer.the-variants.{Accepted, Refused}
 use Rattle.answers.specs.Tests.{Test, firstBroken}
 use Rattle.answers.specs.Calls.{Lent, Work, work, outcomeBy, opened, outcome}
 use Rattle.answers.proofs.Calls.{opened-accepted, following-same}
-use Rattle.form.specs.Check.{lentCheck}
+use Rattle.cardtables.specs.Stems.{total}
+use Rattle.testvectors.specs.Vectors.{listVerdict}
+use Rattle.form.specs.Check.{checkedWith, lentCheck}
 use Rattle.form.proofs.Checked.{check-accepts}
 use Rattle.value.specs.Settings.{Setting, good, faulty}
 use Rattle.value.specs.Direct.{Direct}
-use Rattle.detect.specs.Direct.{AsBefore}
+use Rattle.detect.specs.Grading.{tally, mark, marked}
+use Rattle.detect.specs.Direct.{directTally, directMark, directMarked, AsBefore}
 use Rattle.detect.proofs.Direct.{direct-as-before}
 use Rattle.faultlist.specs.Faults.{faultTests}
 use Rattle.cardcheck.specs.Calls.{checkWork}
 use Rattle.plain.specs.Calls.{valuesWork, goodTests}
 use Rattle.changes.specs.Calls.{changeWork, criticalWork}
 use Rattle.grade.specs.Calls.{gradeWork}
+use Rattle.report.specs.Text.{gradingText}
+use Rattle.report.specs.Report.{unlessBroken, ifAccepted, gradedText}
 use Rattle.former.specs.Check.{formerLentCheck}
 use Rattle.former.specs.Reads.{NoneInverted}
-use Rattle.former.specs.Calls.{formerValuesWork, formerChangeWork, formerCriticalWork, formerGradeWork, CallsAsBefore}
+use Rattle.former.specs.Calls.{formerValuesWork, formerChangeWork, formerCriticalWork, formerGradeWork, formerText, CallsAsBefore}
 use Rattle.former.proofs.Check.{check-as-before}
 use Rattle.former.proofs.Accepted.{none-direct, direct-none, accepted-before}
 
@@ -40,15 +45,24 @@ module _ {ws : List ℕ} {c : Counts} (a : AsBefore ws c) where
   critical-same : (room : ℕ) (x : List ℕ) → criticalWork room ws x c ≡ formerCriticalWork room ws x c
   critical-same room x = ap (work _ 0) (tab-same _ _ (c .nodes) (λ j l. ap (λ (b : Bool). choose b 1 0) (a .critical x j l)))
 
+  text-same : (xs : List ℕ)
+      → gradingText c (mark ws c xs) (tally ws c xs) (marked ws c xs) (total ws c)
+      ≡ gradingText c (directMark ws c xs) (directTally ws c xs) (directMarked ws c xs) (total ws c)
+  text-same xs = rw (a .counted xs, fun-ext (a .marks xs), fun-ext (a .tallies xs))
+
   grade-same : (marks tallies : ℕ) (xs : List ℕ) → gradeWork marks tallies ws xs c ≡ formerGradeWork marks tallies ws xs c
   grade-same marks tallies xs = rw (a .counted xs, fun-ext (a .marks xs), fun-ext (a .tallies xs))
+
+accepted-same : (a : Answer) (f f′ : Counts → List ℕ) → ((c : Counts) → a ≡ Accepted c → f c ≡ f′ c) → ifAccepted a f ≡ ifAccepted a f′
+accepted-same (Accepted c) f f′ same = same c refl
+accepted-same (Refused r p) f f′ same = refl
+
+all-before : (ws : List ℕ) (extra : ℕ) → NoneInverted ws → {c : Counts} → checkedWith ws extra ≡ Accepted c → AsBefore ws c
+all-before ws extra none {c} e = direct-as-before (check-accepts ws extra c e .shape) (none-direct ws extra e none)
 
 module _ (card : Lent) (none : NoneInverted (card .words)) where
   opens-same : lentCheck card ≡ formerLentCheck card
   opens-same = check-as-before (card .words) (card .extra) none
-
-  all-before : {c : Counts} → lentCheck card ≡ Accepted c → AsBefore (card .words) c
-  all-before {c} e = direct-as-before (check-accepts (card .words) (card .extra) c e .shape) (none-direct (card .words) (card .extra) e none)
 
   -- a call whose work on such a card is the former one
   call-same : (form : Counts → Verdict) (f f′ : Counts → Work) → ((c : Counts) → AsBefore (card .words) c → f c ≡ f′ c)
@@ -56,8 +70,15 @@ module _ (card : Lent) (none : NoneInverted (card .words)) where
   unfolding outcome
   call-same form f f′ same =
       following-same (opened (lentCheck card) form) _ _ (λ c e.
-      ap (λ (w : Work). outcomeBy (firstBroken (w .tests)) w) (same c (all-before (opened-accepted (lentCheck card) form e .0))))
+      ap (λ (w : Work). outcomeBy (firstBroken (w .tests)) w) (same c (all-before (card .words) (card .extra) none (opened-accepted (lentCheck card) form e .0))))
       ∙ ap (λ (a : Answer). outcome (opened a form) f′) opens-same
+
+  printed-same : (xs : List ℕ) → gradedText (card .words) xs ≡ formerText (card .words) xs
+  unfolding gradedText
+  printed-same xs =
+      rw (← check-as-before (card .words) 0 none)
+      (accepted-same (checkedWith (card .words) 0) _ _ (λ c e.
+      ap (unlessBroken (listVerdict (c .inputs) xs)) (text-same (all-before (card .words) 0 none e) xs)))
 
   -- THE CALLS
   pub calls-as-before : CallsAsBefore card
@@ -68,6 +89,7 @@ module _ (card : Lent) (none : NoneInverted (card .words)) where
     changes = λ v g room. call-same _ _ _ (λ c a. change-same a g room (v .words));
     critical = λ v room. call-same _ _ _ (λ c a. critical-same a room (v .words));
     grading = λ v marks tallies. call-same _ _ _ (λ c a. grade-same a marks tallies (v .words));
+    printed = printed-same;
   }
 
 -- so of every card that is accepted and has no inverted read, and of every card that was accepted

@@ -10,6 +10,7 @@ use Rattle.answers.specs.declared.Counts.{Counts}
 use Rattle.answers.specs.declared.Answer.{Answer}
 use Rattle.answers.specs.Tests.{Test}
 use Rattle.answers.specs.Calls.{Lent, Outcome, Work, work, opened, outcome}
+use Rattle.cardtables.specs.Stems.{total}
 use Rattle.testvectors.specs.Vectors.{vectorVerdict, listVerdict, lentForm}
 use Rattle.value.specs.Settings.{Setting, good, faulty}
 use Rattle.value.specs.Direct.{directValue}
@@ -19,7 +20,9 @@ use Rattle.cardcheck.specs.Calls.{checkWork, checkOutcome}
 use Rattle.plain.specs.Calls.{goodTests, goodOutcome, faultOutcome}
 use Rattle.changes.specs.Calls.{changeTests, changeOutcome, criticalTests, criticalOutcome}
 use Rattle.grade.specs.Calls.{gradeTests, gradeOutcome}
-use Rattle.former.specs.Check.{formerLentCheck}
+use Rattle.report.specs.Text.{gradingText}
+use Rattle.report.specs.Report.{unlessBroken, ifAccepted, gradedText}
+use Rattle.former.specs.Check.{formerCheckedWith, formerLentCheck}
 
 -- how a call on one vector opened, and one on a list
 abbrev pub formerOpenedVector : Lent → Lent → Answer
@@ -71,7 +74,14 @@ formerGradeWork marks tallies ws xs c =
 abbrev pub formerGradeOutcome : Lent → Lent → ℕ → ℕ → Outcome
 formerGradeOutcome card v marks tallies = outcome (formerOpenedList card v) (formerGradeWork marks tallies (card .words) (v .words))
 
--- THE STATEMENT: every call on the card comes to what it came to, refused or not, by words or in bytes: its reply, and the words of both buffers
+-- WHAT cardgrade PRINTED for the card ws with the vector words xs: the card's refusal, the list's, or the grading
+abbrev pub formerText : List ℕ → List ℕ → List ℕ
+formerText ws xs =
+    ifAccepted (formerCheckedWith ws 0) (λ c.
+    unlessBroken (listVerdict (c .inputs) xs) (gradingText c (directMark ws c xs) (directTally ws c xs) (directMarked ws c xs) (total ws c)))
+
+-- THE STATEMENT: every call on the card comes to what it came to, refused or not, by words or in bytes: its reply, and the words of both buffers. And the
+-- program prints what it printed
 pub record CallsAsBefore (card : Lent) : Type 0 where
   pub check : (room : ℕ) → checkOutcome card room ≡ formerCheckOutcome card room
   pub good : (v : Lent) (room : ℕ) → goodOutcome card v room ≡ formerGoodOutcome card v room
@@ -79,3 +89,4 @@ pub record CallsAsBefore (card : Lent) : Type 0 where
   pub changes : (v : Lent) (g room : ℕ) → changeOutcome card v g room ≡ formerChangeOutcome card v g room
   pub critical : (v : Lent) (room : ℕ) → criticalOutcome card v room ≡ formerCriticalOutcome card v room
   pub grading : (v : Lent) (marks tallies : ℕ) → gradeOutcome card v marks tallies ≡ formerGradeOutcome card v marks tallies
+  pub printed : (xs : List ℕ) → gradedText (card .words) xs ≡ formerText (card .words) xs

@@ -1,5 +1,5 @@
--- THE READS THAT THE CHECK COMES TO, and a list of words in which none of these is inverted. The list may be a card or not: what stands behind the first
--- word that is refused is no read, whatever its bits. No contract of a call cites these. Assumes nothing.
+-- THE READS THAT THE CHECK COMES TO, and a list of words in which none of these is inverted. The words may be a card or not: what stands after the first
+-- word that is refused is not come to, whatever its bits. No contract of a call cites these. Assumes nothing.
 use Prim.Native.Nat.{ℕ, zero, suc, _+_, _*_, _<_, _≤_}
 use mathlib.Core.Path.{_≡_}
 use mathlib.Core.List.{List}
