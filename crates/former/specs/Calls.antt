@@ -1,6 +1,7 @@
--- THE CALLS AS THEY WERE before document 02's 'Inverted reads', and the statement that a card with no inverted read has them still: the opening is the
--- former check and then the form of the vectors; the tests of a call are its own; and its number and its words are made of `directValue`, in which a node's
--- decision is the value read. No contract of a call cites these. Assumes nothing.
+-- THE CALLS BY THE RULES THAT KNOW OF NO INVERSION, as they were before document 02's 'Inverted reads' (that faults may be several came later, and is as
+-- now), and the statement that a card with no inverted read has them still: the opening is the former check and then the form of the vectors; the tests of
+-- a call are its own; and its number and its words are made of `directValue`, in which a node's decision is the value read. No contract of a call cites
+-- these. Assumes nothing.
 use Prim.Native.Nat.{ℕ}
 use mathlib.Core.Path.{_≡_}
 use mathlib.Core.List.{List}
