@@ -22,11 +22,11 @@ use Rattle.detect.specs.Grading.{tally, mark, marked}
 use Rattle.detect.specs.Direct.{directTally, directMark, directMarked, AsBefore}
 use Rattle.detect.proofs.Direct.{direct-as-before}
 use Rattle.faultlist.specs.Faults.{faultTests}
-use Rattle.cardcheck.specs.Calls.{checkWork}
+use Rattle.cardcounts.specs.Calls.{checkWork}
 use Rattle.plain.specs.Calls.{valuesWork, goodTests}
 use Rattle.changes.specs.Calls.{changeWork, criticalWork}
 use Rattle.grade.specs.Calls.{gradeWork}
-use Rattle.report.specs.Text.{gradingText}
+use Rattle.textlines.specs.Text.{gradingText}
 use Rattle.report.specs.Report.{unlessBroken, ifAccepted, gradedText}
 use Rattle.former.specs.Check.{formerLentCheck}
 use Rattle.former.specs.Reads.{NoneInverted}

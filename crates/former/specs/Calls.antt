@@ -17,11 +17,11 @@ use Rattle.value.specs.Settings.{Setting, good, faulty}
 use Rattle.value.specs.Direct.{directValue}
 use Rattle.detect.specs.Direct.{directChanges, directCritical, directTally, directMark, directMarked}
 use Rattle.faultlist.specs.Faults.{faultTests}
-use Rattle.cardcheck.specs.Calls.{checkWork, checkOutcome}
+use Rattle.cardcounts.specs.Calls.{checkWork, checkOutcome}
 use Rattle.plain.specs.Calls.{goodTests, goodOutcome, faultOutcome}
 use Rattle.changes.specs.Calls.{changeTests, changeOutcome, criticalTests, criticalOutcome}
 use Rattle.grade.specs.Calls.{gradeTests, gradeOutcome}
-use Rattle.report.specs.Text.{gradingText}
+use Rattle.textlines.specs.Text.{gradingText}
 use Rattle.report.specs.Report.{unlessBroken, ifAccepted, gradedText}
 use Rattle.former.specs.Check.{formerCheckedWith, formerLentCheck}
 
