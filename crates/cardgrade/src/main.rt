@@ -2,21 +2,24 @@
 // What is printed for the bytes read is the contract of report::report. How many bytes decide is that of report::wanted: the
 // text of so many is the text of all (the law `text-front` of report's proofs), so an input without end has its line too.
 // A read that fails is no end of the input: then nothing is printed but a message on standard error.
+mod reads;
+
 ghost use mathlib.Core.Path.{_≡_};
 ghost use Prim.Native.Nat.{_≤_};
-ghost use lib.ListN.{length};
+ghost use lib.ListN.{length, take};
 ghost use Rattle.report.specs.Report.{maxInput};
 ghost use Rattle.textlines.specs.Text.{maxText};
-ghost use Rattle.cardgrade.specs.Reading.{bytesOf};
-use libc::STDIN_FILENO;
+ghost use Rattle.cardgrade.specs.Reading.{Came, CameAll};
 use libc::STDOUT_FILENO;
+use reads::Answer;
+use reads::Source;
 use report::MAX_INPUT;
 use textlines::MAX_TEXT;
 
-// What reading came to: so many bytes, as many as were wanted or all that there were; or a read failed.
+// What reading came to: the bytes that the reads handed out, as many as were wanted or all that there were; or a read failed.
 enum Reading {
-    Bytes(usize),
-    Failed,
+    Read(Source),
+    Failed(Source),
 }
 
 // Room for all the bytes that can decide, and for the longest text.
@@ -32,57 +35,37 @@ fn text_room() -> [u8; MAX_TEXT]
     [0u8; MAX_TEXT]
 }
 
-// One read of some bytes, none at the end of the input. A read that a signal interrupts is tried again, a hundred times in all.
-fn read_some(room: &mut [u8]) -> Reading
-    ensures { λ r. ⌜ bytesOf r ≤ length (now (room .entry)) ⌝ }
+// Reads on, until the bytes wanted are there or the input ends. Those that were there stay.
+fn read_on(input: &mut [u8], source: Source, wanted: usize) -> Reading
+    requires { ⌜ (source .handed ≤ wanted) × (wanted ≤ length (now input)) ⌝ }
+    ensures { λ r. ⌜ Came wanted r ⌝ }
+    ensures { λ r. ⌜ take (source .handed) (now (input .exit)) ≡ take (source .handed) (now (input .entry)) ⌝ }
 {
-    let mut tries: usize = 0;
-    while tries < 100 {
-        let got = libc::read(STDIN_FILENO, room);
-        if 0 <= got {
-            return Reading::Bytes(io::count(got, room));
-        }
-        if os::errno() != libc::EINTR {
-            return Reading::Failed;
-        }
-        tries += 1;
-    }
-    Reading::Failed
-}
-
-// Reads on from a position, until the bytes wanted are there or the input ends; the result is the position reached.
-fn read_on(input: &mut [u8], from: usize, wanted: usize) -> Reading
-    requires { ⌜ (from ≤ wanted) × (wanted ≤ length (now input)) ⌝ }
-    ensures { λ r. ⌜ bytesOf r ≤ wanted ⌝ }
-{
-    let mut at = from;
-    while at < wanted {
-        match read_some(&mut input[at..wanted]) {
-            Reading::Failed => return Reading::Failed,
-            Reading::Bytes(n) => {
-                if n == 0 {
-                    return Reading::Bytes(at);
-                }
-                at += n;
-            }
+    let mut so_far = source;
+    while reads::handed(so_far) < wanted {
+        so_far = reads::read_more(so_far, input, wanted);
+        match reads::last(so_far) {
+            Answer::Error => return Reading::Failed(so_far),
+            Answer::End => return Reading::Read(so_far),
+            Answer::Bytes(_) => {}
         }
     }
-    Reading::Bytes(at)
+    Reading::Read(so_far)
 }
 
 // Reads the word count, and then the bytes that it makes wanted.
 fn read_input(input: &mut [u8]) -> Reading
     requires { ⌜ maxInput ≤ length (now input) ⌝ }
-    ensures { λ r. ⌜ bytesOf r ≤ maxInput ⌝ }
+    ensures { λ r. ⌜ CameAll (now (input .exit)) r ⌝ }
 {
-    match read_on(input, 0, 4) {
-        Reading::Failed => Reading::Failed,
-        Reading::Bytes(counted) => {
-            if counted < 4 {
-                return Reading::Bytes(counted);
+    match read_on(input, reads::start(), 4) {
+        Reading::Failed(source) => Reading::Failed(source),
+        Reading::Read(source) => {
+            if reads::handed(source) < 4 {
+                return Reading::Read(source);
             }
             let wanted = report::wanted(&input[..4]);
-            read_on(input, 4, wanted)
+            read_on(input, source, wanted)
         }
     }
 }
@@ -99,7 +82,10 @@ fn print_report(input: &[u8]) {
 fn main() {
     let mut input = input_room();
     match read_input(&mut input) {
-        Reading::Failed => os::fail(b"cardgrade: cannot read standard input"),
-        Reading::Bytes(n) => print_report(&input[..n]),
+        Reading::Failed(_) => os::fail(b"cardgrade: cannot read standard input"),
+        Reading::Read(source) => {
+            let n = reads::handed(source);
+            print_report(&input[..n])
+        }
     }
 }
