@@ -43,7 +43,7 @@ pub fn last(source: Source) -> Answer
     source.last
 }
 
-// What the number that a read answers tells, after so many bytes.
+// What the number that a read answers tells, after so many bytes: 0, and no other number, is the end.
 fn told(handed: usize, got: isize) -> Source
     requires { ⌜ handed + taken got < 18446744073709551616 ⌝ }
     ensures { λ r. ⌜ r ≡ toldBy handed got ⌝ }
@@ -54,17 +54,17 @@ fn told(handed: usize, got: isize) -> Source
             last: Answer::Error,
         };
     }
-    if 0 < got {
-        let n = got as usize;
-        let after = handed + n;
+    if got < 1 {
         return Source {
-            handed: after,
-            last: Answer::Bytes(n),
+            handed: handed,
+            last: Answer::End,
         };
     }
+    let n = got as usize;
+    let after = handed + n;
     Source {
-        handed: handed,
-        last: Answer::End,
+        handed: after,
+        last: Answer::Bytes(n),
     }
 }
 
