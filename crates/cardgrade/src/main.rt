@@ -1,7 +1,9 @@
 // Reads a card's word count, the card and vector words from standard input, and prints the grading, or why there is none.
 // What is printed for the bytes read is the contract of report::report. How many bytes decide is that of report::wanted: the
 // text of so many is the text of all (the law `text-front` of report's proofs), so an input without end has its line too.
-// A read that fails is no end of the input: then nothing is printed but a message on standard error.
+// Fewer are graded only where a read answered that the input ends: so the text is that of the whole input, given what is
+// trusted of the reads (the law `whole-input`, proofs/Whole.antt). A read that fails is no end of the input: then nothing is
+// printed but a message on standard error.
 mod reads;
 
 ghost use mathlib.Core.Path.{_≡_};

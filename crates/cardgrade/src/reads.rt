@@ -1,5 +1,5 @@
-// Reads of standard input, one after the other. What they told is kept in a `Source`, and only this module can make one, since its fields are private.
-// So no other function can make up an end of the input, or a byte: it has what the reads told.
+// Reads of standard input, one after the other. What they told is kept in a `Source`, and only this module can make one, since its
+// fields are private. So no other function can make up an end of the input, or a byte: it has what the reads told.
 ghost use mathlib.Core.Path.{_≡_};
 ghost use Prim.Native.Nat.{_+_, _<_, _≤_};
 ghost use lib.ListN.{length, take};
@@ -86,8 +86,8 @@ fn read_some(room: &mut [u8]) -> isize
     -1
 }
 
-// One read more, up to the bytes wanted, right behind those that the reads have handed out, which stay as they are. At least one byte is asked for: a read
-// of none answers 0 where the input has not ended.
+// One read more, up to the bytes wanted, right behind those that the reads have handed out, which stay as they are. At least one byte
+// is asked for: a read of none answers 0 where the input has not ended.
 pub fn read_more(source: Source, input: &mut [u8], wanted: usize) -> Source
     requires { ⌜ (source .handed < wanted) × (wanted ≤ length (now input)) ⌝ }
     ensures { λ r. ⌜ (r .handed ≤ wanted) × Grown (source .handed) (r .handed) (r .last) ⌝ }
