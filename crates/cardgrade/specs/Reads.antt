@@ -1,6 +1,7 @@
 -- What reads of standard input tell. The library's contract of a read speaks of its number alone, and so do these. Assumes nothing.
 use Prim.Native.Nat.{ℕ, zero, suc, _+_, _<_, _≤_}
 use mathlib.Core.Path.{_≡_}
+use mathlib.Core.Bool.{Bool, true, false}
 use lib.IntN.{ℤ, pos, negsuc}
 use Rattle.cardgrade.specs.declared.reads.Answer.{Answer}
 use Rattle.cardgrade.specs.declared.reads.Answer.the-variants.{Bytes, End, Error}
@@ -22,3 +23,9 @@ abbrev pub Grown : ℕ → ℕ → Answer → Type 0
 Grown n m (Bytes k) = (m ≡ n + k) × (0 < k)
 Grown n m End = m ≡ n
 Grown n m Error = m ≡ n
+
+-- the read failed
+abbrev pub failed : Answer → Bool
+failed (Bytes k) = false
+failed End = false
+failed Error = true

@@ -7,10 +7,13 @@
 mod reads;
 
 ghost use mathlib.Core.Path.{_≡_};
+ghost use mathlib.Core.Bool.{false};
 ghost use Prim.Native.Nat.{_≤_};
 ghost use lib.ListN.{length, take};
 ghost use Rattle.report.specs.Report.{maxInput};
 ghost use Rattle.textlines.specs.Text.{maxText};
+ghost use Rattle.cardgrade.specs.declared.Reading.the-variants.{Read};
+ghost use Rattle.cardgrade.specs.Reads.{failed};
 ghost use Rattle.cardgrade.specs.Reading.{Came, CameAll};
 use libc::STDOUT_FILENO;
 use reads::Answer;
@@ -39,7 +42,7 @@ fn text_room() -> [u8; MAX_TEXT]
 
 // Reads on, until the bytes wanted are there or the input ends. Those that were there stay.
 fn read_on(input: &mut [u8], source: Source, wanted: usize) -> Reading
-    requires { ⌜ (source .handed ≤ wanted) × (wanted ≤ length (now input)) ⌝ }
+    requires { ⌜ (source .handed ≤ wanted) × (wanted ≤ length (now input)) × (failed (source .last) ≡ false) ⌝ }
     ensures { λ r. ⌜ Came wanted r ⌝ }
     ensures { λ r. ⌜ take (source .handed) (now (input .exit)) ≡ take (source .handed) (now (input .entry)) ⌝ }
 {
@@ -72,11 +75,14 @@ fn read_input(input: &mut [u8]) -> Reading
     }
 }
 
-// Prints the text for the bytes read.
-fn print_report(input: &[u8]) {
+// Prints the text for the bytes read. It asks that they are all, and that no read failed.
+fn print_report(input: &[u8], source: Source)
+    requires { ⌜ CameAll (now input) (Read source) × (maxInput ≤ length (now input)) ⌝ }
+{
+    let n = reads::handed(source);
     let mut text = text_room();
-    let n = report::report(input, &mut text);
-    if !io::write_all(STDOUT_FILENO, &text[..n]) {
+    let long = report::report(&input[..n], &mut text);
+    if !io::write_all(STDOUT_FILENO, &text[..long]) {
         os::fail(b"cardgrade: standard output did not take the whole text");
     }
 }
@@ -85,9 +91,6 @@ fn main() {
     let mut input = input_room();
     match read_input(&mut input) {
         Reading::Failed(_) => os::fail(b"cardgrade: cannot read standard input"),
-        Reading::Read(source) => {
-            let n = reads::handed(source);
-            print_report(&input[..n])
-        }
+        Reading::Read(source) => print_report(&input, source),
     }
 }

@@ -14,14 +14,14 @@ use mathlib.Core.Path.{_≡_, sym, ap, _∙_}
 use native.Mathlib.Omega.{arith}
 
 came-all : (b : List ℕ) (wanted : ℕ) (r : Reading) → wanted ≡ bytesWanted (take 4 b) → wanted ≤ maxInput → Came wanted r → CameAll b r
-came-all b wanted (Read s) e l h = (omega (arith, l, h .0), λ q. h .1 (rw e q))
+came-all b wanted (Read s) e l h = (omega (arith, l, h .0), λ q. h .1 (rw e q), h .2)
 came-all b wanted (Failed s) e l h = h
 
 returns : tie.Need-returns
 returns c =
     let at-source = c .before .before .before in
     let came = rw (at-source .source2 .given .1) at (at-source .before .before .before .before .read-on .ensures .0) in
-    (omega (arith, came .0), λ q. came .1 (omega (arith, c .before .handed .ensures, c .if1 .taken)))
+    (omega (arith, came .0), λ q. came .1 (omega (arith, c .before .handed .ensures, c .if1 .taken)), came .2)
 
 slice-reshare-prefix-wanted : tie.Need-slice-reshare-prefix-wanted
 slice-reshare-prefix-wanted c = search needs
@@ -38,7 +38,7 @@ read-on-requires-2 c κs =
     let start = at-read-on .before .before .before .before in
     let came = rw (at-source .source2 .given .1) at (at-read-on .read-on .ensures .0) in
     let wanted = c .before .wanted .ensures in
-    (omega (arith, came .0, wanted .1), omega (arith, wanted .2, at-read-on .read-on .kept .0, start .pre))
+    (omega (arith, came .0, wanted .1), omega (arith, wanted .2, at-read-on .read-on .kept .0, start .pre), came .2)
 
 returns-2 : tie.Need-returns-2
 returns-2 c = rw (c .before .source .given .1) at (c .before .before .before .before .before .read-on .ensures .0)

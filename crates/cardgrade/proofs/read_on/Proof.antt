@@ -2,22 +2,24 @@
 use Rattle.cardgrade.proofs.read_on.Tie as tie
 use Rattle.cardgrade.proofs.read_on.Statement.{statement}
 use Rattle.cardgrade.proofs.Whole.{shorter-fronts}
+use Rattle.cardgrade.specs.Reads.{failed}
 use Prim.Native.Nat.{_≤_, _-_}
 use borrow.Author.Needs.{needs}
 use lib.ListN.{length, take}
-use mathlib.Core.Path.{_≡_, refl, sym, _∙_}
+use mathlib.Core.Bool.{false}
+use mathlib.Core.Path.{_≡_, refl, sym, ap, _∙_}
 use native.Mathlib.Omega.{arith}
 
 abbrev Inv-loop : tie.InvT-loop
 Inv-loop input₀ wanted so-far₀ input so-far =
     (so-far₀ .handed ≤ so-far .handed) × (so-far .handed ≤ wanted) × (length input ≡ length input₀)
-    × (take (so-far₀ .handed) input ≡ take (so-far₀ .handed) input₀)
+    × (take (so-far₀ .handed) input ≡ take (so-far₀ .handed) input₀) × (failed (so-far .last) ≡ false)
 
 abbrev μ-loop : tie.MeasureT-loop
 μ-loop input₀ wanted so-far₀ input so-far = wanted - so-far .handed
 
 loop-holds : tie.Need-loop-holds Inv-loop μ-loop
-loop-holds c = (omega arith, c .before .pre .0, refl, refl)
+loop-holds c = (omega arith, c .before .pre .0, refl, refl, c .before .pre .2)
 
 read-more-requires : tie.Need-read-more-requires Inv-loop μ-loop
 read-more-requires c κs =
@@ -30,15 +32,16 @@ returns c =
     let at-read = at-last .before .before .before in
     let at-loop = at-read .before .before .before .before in
     let inv = at-loop .loop .inv in
-    (sym (at-last .last .ensures) ∙ c .enum-told .given .1, shorter-fronts _ _ _ _ (inv .0) (at-read .read-more .ensures .1) ∙ inv .3)
+    (ap failed (sym (at-last .last .ensures) ∙ c .enum-told .given .1), shorter-fronts _ _ _ _ (inv .0) (at-read .read-more .ensures .1) ∙ inv .3)
 
 returns-2 : tie.Need-returns-2 Inv-loop μ-loop
 returns-2 c =
     let at-last = c .before .before in
     let at-read = at-last .before .before .before in
     let at-loop = at-read .before .before .before .before in
-    let inv = at-loop .loop .inv in (
-      (at-read .read-more .ensures .0 .0, λ h. sym (at-last .last .ensures) ∙ c .enum-told2 .given .1),
+    let inv = at-loop .loop .inv in
+    let ended = sym (at-last .last .ensures) ∙ c .enum-told2 .given .1 in (
+      (at-read .read-more .ensures .0 .0, λ h. ended, ap failed ended),
       shorter-fronts _ _ _ _ (inv .0) (at-read .read-more .ensures .1) ∙ inv .3,
     )
 
@@ -55,17 +58,19 @@ loop-again c =
     let at-read = at-last .before .before .before in
     let at-loop = at-read .before .before .before .before in
     let inv = at-loop .loop .inv in
-    let grew = rw (sym (at-last .last .ensures) ∙ c .enum-told3 .given .1) at (at-read .read-more .ensures .0 .1) in (
+    let brought = sym (at-last .last .ensures) ∙ c .enum-told3 .given .1 in
+    let grew = rw brought at (at-read .read-more .ensures .0 .1) in (
       omega (arith, grew, inv .0),
       at-read .read-more .ensures .0 .0,
       omega (arith, at-read .read-more .kept .1 .0, inv .2),
       shorter-fronts _ _ _ _ (inv .0) (at-read .read-more .ensures .1) ∙ inv .3,
+      ap failed brought,
     )
 
 returns-3 : tie.Need-returns-3 Inv-loop μ-loop
 returns-3 c =
     let inv = c .before .before .loop .inv in
-    ((inv .1, λ h. absurd (omega (arith, h, c .before .handed .ensures, c .if1 .left))), inv .3)
+    ((inv .1, λ h. absurd (omega (arith, h, c .before .handed .ensures, c .if1 .left)), inv .4), inv .3)
 
 pub read-on-spec : {M : Type 1} → statement M
 read-on-spec =
