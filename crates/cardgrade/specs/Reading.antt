@@ -11,8 +11,8 @@ use Rattle.cardgrade.specs.declared.Reading.{Reading}
 use Rattle.cardgrade.specs.declared.Reading.the-variants.{Read, Failed}
 use Rattle.cardgrade.specs.Reads.{failed}
 
--- THE BYTES ARE ALL THAT WERE WANTED, OR ALL THAT THERE WERE: there are fewer only where the last read answered that the input ends, and no read failed.
--- Reading failed only where the last read did.
+-- THE BYTES ARE ALL THAT WERE WANTED, OR ALL THAT THERE WERE: there are fewer only where the last read answered that the input ends, and it did not
+-- fail. Reading is told as failed only where the last read did.
 abbrev pub Came : ℕ → Reading → Type 0
 Came wanted (Read s) = (s .handed ≤ wanted) × (s .handed < wanted → s .last ≡ End) × (failed (s .last) ≡ false)
 Came wanted (Failed s) = failed (s .last) ≡ true
