@@ -46,18 +46,13 @@ table =
 abbrev unnamed-second : ℕ → List ℕ
 unnamed-second w = w ∷ 0x60000000 ∷ 0x80000001 ∷ 0x60000000 ∷ 0x80000001 ∷ []
 
--- 1,023 inputs, an output of one node, and then the word w, where the header of graph 1,025 is due: rule 2, whatever else w breaks
-abbrev past-the-last : ℕ → List ℕ
-past-the-last w = replicate 1023 0 ++ (0x40000001 ∷ 0x60000000 ∷ 0x80000001 ∷ w ∷ [])
-
 -- THE ORDER: each row breaks the rule that is told and one that comes after it
 abbrev pub twice-broken : List Case
 twice-broken =
     -- 1 before any word's rule, here 5 at word 0
     check (replicate 9217 1) 0 (refusal 1 0)
-    -- at one word 2 first: all bits set break 4, 5 and 3 too; `too-many` has these one by one
-    ∷ check (past-the-last 0xFFFFFFFF) 0 (refusal 2 1026)
-    -- the kind (4) before the bits that must be zero (5): of a header, of an input after an output, of a read, of exits
+    -- at one word 2 first, as the rows of `too-many` have it, and then the kind (4) before the bits that must be zero (5): of a header, of an input after an
+    -- output, of a read, of exits
     ∷ check (0 ∷ 0x60010000 ∷ []) 0 (refusal 4 1)
     ∷ check (0 ∷ 0x40000001 ∷ 0x60000000 ∷ 0x80000001 ∷ 0x00000001 ∷ []) 0 (refusal 4 4)
     ∷ check (0 ∷ 0x40000001 ∷ 0x80020000 ∷ 0x80000001 ∷ []) 0 (refusal 4 2)
@@ -87,8 +82,7 @@ twice-broken =
     ∷ check (0 ∷ []) 1 (refusal 4 1)
     ∷ []
 
--- A card, what the check has counted of it so far, and what it tells from there on. Where 1,024 graphs are counted, this takes far less computing than the
--- whole check.
+-- A card, what the check has counted of its first graphs, and what it tells from there on. Of a card of 1,024 graphs the whole check takes long to compute.
 pub record Part : Type 0 where
   pub card : List ℕ
   pub counted : Counts
@@ -97,11 +91,17 @@ pub record Part : Type 0 where
 abbrev part : List ℕ → Counts → Told → Part
 part card counted told = record { card = card; counted = counted; told = told }
 
--- 2 before 4, another kind and an input after an output; before 5; before 3, no node and 4,097 of them. 2 before 5 at an input, after 1,024 inputs. And 8 of
--- graph 1,024 before 2 at the word after it.
+-- 1,023 inputs, an output of one node, and then the word w, where the header of graph 1,025 is due: rule 2, whatever else w breaks
+abbrev past-the-last : ℕ → List ℕ
+past-the-last w = replicate 1023 0 ++ (0x40000001 ∷ 0x60000000 ∷ 0x80000001 ∷ w ∷ [])
+
+-- The first row breaks 2, 4, 5 and 3 at once, and the check comes to that word by its own counting, from graph 1,000 on. Then one by one: 2 before 4, another
+-- kind and an input after an output; before 5; before 3, no node and 4,097 of them. 2 before 5 at an input, after 1,024 inputs. And 8 of graph 1,024 before 2 at
+-- the word after it.
 abbrev pub too-many : List Part
 too-many =
-    part (past-the-last 0x60000000) (counts 1023 1024 1 1) (refusal 2 1026)
+    part (past-the-last 0xFFFFFFFF) (counts 1000 1000 0 0) (refusal 2 1026)
+    ∷ part (past-the-last 0x60000000) (counts 1023 1024 1 1) (refusal 2 1026)
     ∷ part (past-the-last 0x00000000) (counts 1023 1024 1 1) (refusal 2 1026)
     ∷ part (past-the-last 0x40010001) (counts 1023 1024 1 1) (refusal 2 1026)
     ∷ part (past-the-last 0x40000000) (counts 1023 1024 1 1) (refusal 2 1026)

@@ -153,8 +153,7 @@ twice-broken =
     ∷ check (0 ∷ 0x20000001 ∷ 0x60000000 ∷ []) 1 (refusal 4 3)
     ∷ []
 
--- A gate list, what the check has counted of it so far, and what it tells from there on. Where 1,024 lines are counted, this takes far less computing than
--- the whole check.
+-- A gate list, what the check has counted of its first lines, and what it tells from there on. Of a list of 1,024 lines the whole check takes long to compute.
 pub record Part : Type 0 where
   pub gates : List ℕ
   pub counted : Counts
