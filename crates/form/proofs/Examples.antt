@@ -69,7 +69,7 @@ twice-broken =
     ∷ check (0 ∷ 0x40000001 ∷ 0x60000001 ∷ []) 0 (refusal 6 2)
     ∷ check (0 ∷ 0x40000002 ∷ 0x60000000 ∷ 0x80000002 ∷ []) 0 (refusal 7 3)
     -- 8 after the graph's last word: 7 at that word comes first, and so does the end before it (4)
-    ∷ check (0 ∷ 0x40000002 ∷ 0x60000000 ∷ 0x80000001 ∷ 0x60000000 ∷ 0x80000003 ∷ []) 0 (refusal 7 5)
+    ∷ check (0 ∷ 0x40000002 ∷ 0x60000000 ∷ 0x80000001 ∷ 0x60000000 ∷ 0x80000002 ∷ []) 0 (refusal 7 5)
     ∷ check (0 ∷ 0x40000002 ∷ 0x60000000 ∷ 0x80000001 ∷ 0x60000000 ∷ []) 0 (refusal 4 5)
     -- and before the next word's: 4, 5 and 3; before bytes left over (4), and before 9
     ∷ check (0 ∷ unnamed-second 0x40000002 ++ (0x60000000 ∷ [])) 0 (refusal 8 1)
