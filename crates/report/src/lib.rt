@@ -46,7 +46,11 @@ fn report_words(card: &[u32], vectors: &[u8], out: &mut [u8]) -> usize
 {
     let none = &card[..0];
     match opening::open_list(card, 0, none, vectors) {
-        Answer::Refused(rule, position) => textlines::put_refused(out, answers::rule_number(rule), position),
+        Answer::Refused(rule, position) => textlines::put_refused(
+            out,
+            answers::rule_number(rule),
+            position,
+        ),
         Answer::Accepted(c) => report_accepted(card, c, none, vectors, out),
     }
 }
