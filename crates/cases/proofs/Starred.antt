@@ -17,13 +17,9 @@ use Rattle.plain.specs.Calls.{goodTests}
 use Rattle.faultlist.specs.Faults.{faultTests}
 use Rattle.changes.specs.Calls.{changeTests, criticalTests}
 use Rattle.grade.specs.Calls.{gradeTests}
-use Rattle.wiring.specs.Calls.{countedOn}
-use Rattle.wiring.specs.Joined.{joinTests}
-use Rattle.gatelist.specs.Form.{gatesCheckedWith}
 use Rattle.cases.specs.Starred.{Starred}
 use Rattle.cases.specs.Leads.{Leads}
 use Rattle.cases.specs.Several.{Several}
-use Rattle.cases.specs.Orders.{Orders}
 
 -- one row, and those after it
 infixr 20 _also_
@@ -60,12 +56,3 @@ several-hold =
     (refl, refl) also (refl, refl) also (refl, refl) also (refl, refl) also (refl, refl) also (refl, refl) also (refl, refl) also (refl, refl) also (refl, refl)
     also (refl, refl) also (refl, refl, refl) also (refl, refl, refl) also (refl, refl, refl) also (refl, refl, refl) also (refl, refl, refl)
     also (refl, refl, refl) also (refl, refl, refl) also (refl, refl, refl) also (refl, refl, refl)
-
-pub orders-hold : Orders
-unfolding checkedWith outcome following countedOn joinTests gatesCheckedWith lentForm replyTold goodTests faultTests changeTests criticalTests gradeTests
-    vectorVerdict listVerdict Forall
-orders-hold =
-    (refl, refl, refl) also (refl, refl, refl) also (refl, refl, refl) also (refl, refl, refl) also (refl, refl, refl) also (refl, refl, refl)
-    also (refl, refl, refl) also (refl, refl, refl) also (refl, refl, refl) also (refl, refl, refl) also (refl, refl, refl) also (refl, refl, refl)
-    also (refl, refl, refl) also (refl, refl, refl) also (refl, refl, refl) also (refl, refl, refl) also (refl, refl, refl) also (refl, refl, refl)
-    also (refl, refl, refl) also (refl, refl, refl) also (refl, refl, refl) also (refl, refl, refl) also (refl, refl, refl) also (refl, refl, refl)

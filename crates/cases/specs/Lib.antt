@@ -2,4 +2,3 @@ pub mod Rows
 pub mod Starred
 pub mod Leads
 pub mod Several
-pub mod Orders

@@ -1,0 +1,2 @@
+-- The rows of the order of refusals, by computing.
+mod Orders
