@@ -1,4 +1,3 @@
--- The steps of the evaluators; what the calls give for lists of faults, and what a call that is done has written.
-mod Laws
+-- What the calls give for lists of faults, and what a call that is done has written.
 pub mod Lists
 pub mod Done

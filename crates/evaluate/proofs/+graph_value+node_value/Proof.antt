@@ -1,4 +1,4 @@
--- `plain::graph_value` and `plain::node_value`, which call each other, meet their contracts. The falling number: a graph stands above its own nodes, and
+-- `evaluate::graph_value` and `evaluate::node_value`, which call each other, meet their contracts. The falling number: a graph stands above its own nodes, and
 -- a node above the later nodes of its graph and above every lower graph. Each answer cites one law of `Laws`. Assumes nothing.
 use Prim.Native.Nat.{ℕ, _<_, _+_, _*_, _-_}
 use native.Mathlib.Omega.{arith}
@@ -8,15 +8,15 @@ use Rattle.layout.proofs.NodeNumbers.{walkable, few-nodes, some-node, node-insi
 use Rattle.value.specs.Settings.{faulty}
 use Rattle.value.specs.Run.{run}
 use Rattle.value.proofs.Run.{node-goes}
-use Rattle.plain.proofs.Laws.{node-known, node-ended, node-went, decision-found, graph-known, input-saved, output-saved}
+use Rattle.evaluate.proofs.Laws.{node-known, node-ended, node-went, decision-found, graph-known, input-saved, output-saved}
 use borrow.Fn.Kinds.{In}
 use borrow.Fn.PlainCycle.{Measures, is, falls, and}
-use Rattle.plain.proofs.graph_value.Reads as graph-value
-use Rattle.plain.proofs.graph_value.Kinds as graph-value-kinds
-use Rattle.plain.proofs.+graph_value+node_value.Lts-graph_value as graph-value-lts
-use Rattle.plain.proofs.node_value.Reads as node-value
-use Rattle.plain.proofs.node_value.Kinds as node-value-kinds
-use Rattle.plain.proofs.+graph_value+node_value.Lts-node_value as node-value-lts
+use Rattle.evaluate.proofs.graph_value.Reads as graph-value
+use Rattle.evaluate.proofs.graph_value.Kinds as graph-value-kinds
+use Rattle.evaluate.proofs.+graph_value+node_value.Lts-graph_value as graph-value-lts
+use Rattle.evaluate.proofs.node_value.Reads as node-value
+use Rattle.evaluate.proofs.node_value.Kinds as node-value-kinds
+use Rattle.evaluate.proofs.+graph_value+node_value.Lts-node_value as node-value-lts
 use Rattle.layout.proofs.decision.Reads as decision-reads
 use Rattle.layout.proofs.first_node.Reads as first-node-reads
 use Rattle.layout.proofs.graph_read.Reads as graph-read-reads
@@ -25,8 +25,8 @@ use Rattle.lists.proofs.put.Reads as put-reads
 use Rattle.value.proofs.exit_taken.Reads as exit-taken-reads
 use Rattle.value.proofs.set_at.Reads as set-at-reads
 use Rattle.testvectors.proofs.bit.Reads as bit-reads
-use Rattle.plain.proofs.+graph_value+node_value.{statement}
-use Rattle.plain.proofs.+graph_value+node_value.Tie.{close}
+use Rattle.evaluate.proofs.+graph_value+node_value.{statement}
+use Rattle.evaluate.proofs.+graph_value+node_value.Tie.{close}
 
 abbrev μ-graph-value : Measures 5 graph-value-kinds.ps ℕ
 μ-graph-value κs a = a .1 .1 .1 .1 .1 .0 * 8192 + 8192

@@ -1,4 +1,4 @@
--- `plain::work_out` meets its contract. The invariant: the values of the graphs below g are in, and each word below 2 in `saved` is its site's value.
+-- `evaluate::work_out` meets its contract. The invariant: the values of the graphs below g are in, and each word below 2 in `saved` is its site's value.
 -- Assumes nothing.
 use Prim.Native.Nat.{_≤_, _-_}
 use mathlib.Core.Path.{_≡_, refl, sym}
@@ -12,11 +12,11 @@ use Rattle.testvectors.proofs.Laws.{wide}
 use Rattle.value.specs.Settings.{faulty}
 use Rattle.value.specs.Values.{value}
 use Rattle.value.specs.Run.{run}
-use Rattle.plain.specs.Saved.{Saved}
-use Rattle.plain.proofs.Laws.{nothing-known}
+use Rattle.evaluate.specs.Saved.{Saved}
+use Rattle.evaluate.proofs.Laws.{nothing-known}
 use borrow.Author.Needs.{needs}
-use Rattle.plain.proofs.work_out.Statement.{statement}
-use Rattle.plain.proofs.work_out.Tie as tie
+use Rattle.evaluate.proofs.work_out.Statement.{statement}
+use Rattle.evaluate.proofs.work_out.Tie as tie
 
 abbrev Inv-loop : tie.InvT-loop
 Inv-loop card c vector faults values₀ firsts saved₀ g₀ values saved g = (g ≤ c .graphs) × (length values ≡ length values₀) × (values ≡ over g (value card c (faulty faults) vector) values₀) × Ready card c firsts × Saved (run card c faults vector) saved × (5120 ≡ length saved)

@@ -19,7 +19,7 @@ use Rattle.value.proofs.Settings.{faulty-keeps}
 use Rattle.value.proofs.Values.{value-input, value-output, value-bit, node-bit}
 use Rattle.value.proofs.Run.{taken-is, node-ends, node-goes}
 use Rattle.value.specs.Run.{Run, run, graphOf, nodeOf}
-use Rattle.plain.specs.Saved.{graphSite, nodeSite, exitTaken, Known, Kept, NodeStands, GraphStands, Saved, FoundNode, FoundGraph}
+use Rattle.evaluate.specs.Saved.{graphSite, nodeSite, exitTaken, Known, Kept, NodeStands, GraphStands, Saved, FoundNode, FoundGraph}
 
 -- a buffer in which nothing is known
 pub nothing-known : {ws : List ℕ} {c : Counts} (fs x xs : List ℕ) → Shape ws c → 5120 ≡ length xs → ((i : ℕ) → i < 5120 → getD xs i 0 ≡ 2) → Saved (run ws c fs x) xs
