@@ -12,13 +12,10 @@ use Rattle.lists.specs.Counting.{choose}
 use Rattle.answers.specs.Limits.{maxWords}
 use Rattle.report.specs.Report.{maxVectorWords, wordCount, textOf, bytesWanted}
 use Rattle.report.proofs.Cases.{text-front}
-use Rattle.cardgrade.specs.declared.reads.Source.{Source}
-use Rattle.cardgrade.specs.declared.Reading.the-variants.{Read}
-use Rattle.cardgrade.specs.Reading.{CameAll, FirstOf}
-
--- where two lists have equal fronts, shorter ones are equal too
-pub shorter-fronts : (m n : ℕ) (xs ys : List ℕ) → m ≤ n → take n xs ≡ take n ys → take m xs ≡ take m ys
-shorter-fronts m n xs ys h e = sym (take-take m n xs h) ∙ ap (take m) e ∙ take-take m n ys h
+use Rattle.cardinput.proofs.Fronts.{shorter-fronts}
+use Rattle.cardinput.specs.declared.reads.Source.{Source}
+use Rattle.cardinput.specs.declared.Reading.the-variants.{Read}
+use Rattle.cardgrade.specs.Whole.{CameAll, FirstOf}
 
 -- the word count is always wanted
 four-wanted : (b : List ℕ) → 4 ≤ bytesWanted b

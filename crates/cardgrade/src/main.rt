@@ -4,28 +4,19 @@
 // Fewer are graded only where a read answered that the input ends: so the text is that of the whole input, given what is
 // trusted of the reads (the law `whole-input`, proofs/Whole.antt). A read that fails is no end of the input: then nothing is
 // printed but a message on standard error.
-mod reads;
-
 ghost use mathlib.Core.Path.{_≡_};
-ghost use mathlib.Core.Bool.{false};
 ghost use Prim.Native.Nat.{_≤_};
-ghost use lib.ListN.{length, take};
+ghost use lib.ListN.{length};
 ghost use Rattle.report.specs.Report.{maxInput};
 ghost use Rattle.textlines.specs.Text.{maxText};
-ghost use Rattle.cardgrade.specs.declared.Reading.the-variants.{Read};
-ghost use Rattle.cardgrade.specs.Reads.{failed};
-ghost use Rattle.cardgrade.specs.Reading.{Came, CameAll};
+ghost use Rattle.cardinput.specs.declared.Reading.the-variants.{Read};
+ghost use Rattle.cardgrade.specs.Whole.{CameAll};
+use cardinput::Reading;
+use cardinput::reads;
+use cardinput::reads::Source;
 use libc::STDOUT_FILENO;
-use reads::Answer;
-use reads::Source;
 use report::MAX_INPUT;
 use textlines::MAX_TEXT;
-
-// What reading came to: the bytes that the reads handed out, as many as were wanted or all that there were; or a read failed.
-enum Reading {
-    Read(Source),
-    Failed(Source),
-}
 
 // Room for all the bytes that can decide, and for the longest text.
 fn input_room() -> [u8; MAX_INPUT]
@@ -40,37 +31,19 @@ fn text_room() -> [u8; MAX_TEXT]
     [0u8; MAX_TEXT]
 }
 
-// Reads on, until the bytes wanted are there or the input ends. Those that were there stay.
-fn read_on(input: &mut [u8], source: Source, wanted: usize) -> Reading
-    requires { ⌜ (source .handed ≤ wanted) × (wanted ≤ length (now input)) × (failed (source .last) ≡ false) ⌝ }
-    ensures { λ r. ⌜ Came wanted r ⌝ }
-    ensures { λ r. ⌜ take (source .handed) (now (input .exit)) ≡ take (source .handed) (now (input .entry)) ⌝ }
-{
-    let mut so_far = source;
-    while reads::handed(so_far) < wanted {
-        so_far = reads::read_more(so_far, input, wanted);
-        match reads::last(so_far) {
-            Answer::Error => return Reading::Failed(so_far),
-            Answer::End => return Reading::Read(so_far),
-            Answer::Bytes(_) => {}
-        }
-    }
-    Reading::Read(so_far)
-}
-
 // Reads the word count, and then the bytes that it makes wanted.
 fn read_input(input: &mut [u8]) -> Reading
     requires { ⌜ maxInput ≤ length (now input) ⌝ }
     ensures { λ r. ⌜ CameAll (now (input .exit)) r ⌝ }
 {
-    match read_on(input, reads::start(), 4) {
+    match cardinput::read_on(input, reads::start(), 4) {
         Reading::Failed(source) => Reading::Failed(source),
         Reading::Read(source) => {
             if reads::handed(source) < 4 {
                 return Reading::Read(source);
             }
             let wanted = report::wanted(&input[..4]);
-            read_on(input, source, wanted)
+            cardinput::read_on(input, source, wanted)
         }
     }
 }

@@ -1,9 +1,10 @@
 -- `cardgrade::read_input` meets its contract. The first four bytes, which say how many are wanted, stay as they were read. Assumes nothing.
 use Rattle.cardgrade.proofs.read_input.Tie as tie
 use Rattle.cardgrade.proofs.read_input.Statement.{statement}
-use Rattle.cardgrade.specs.declared.Reading.{Reading}
-use Rattle.cardgrade.specs.declared.Reading.the-variants.{Read, Failed}
-use Rattle.cardgrade.specs.Reading.{Came, CameAll}
+use Rattle.cardinput.specs.declared.Reading.{Reading}
+use Rattle.cardinput.specs.declared.Reading.the-variants.{Read, Failed}
+use Rattle.cardinput.specs.Reading.{Came}
+use Rattle.cardgrade.specs.Whole.{CameAll}
 use Rattle.report.specs.Report.{bytesWanted, maxInput}
 use Prim.Native.Nat.{ℕ, _≤_}
 use borrow.Author.Needs.{needs}

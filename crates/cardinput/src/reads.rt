@@ -4,8 +4,8 @@ ghost use mathlib.Core.Path.{_≡_};
 ghost use Prim.Native.Nat.{_+_, _<_, _≤_};
 ghost use lib.ListN.{length, take};
 ghost use Rattle.libc.specs.Io.{Moved};
-ghost use Rattle.cardgrade.specs.declared.reads.Answer.the-variants.{Bytes};
-ghost use Rattle.cardgrade.specs.Reads.{taken, toldBy, Grown};
+ghost use Rattle.cardinput.specs.declared.reads.Answer.the-variants.{Bytes};
+ghost use Rattle.cardinput.specs.Reads.{taken, toldBy, Grown};
 use libc::STDIN_FILENO;
 
 // What one read answered: so many bytes, one or more; none, at the end of the input; or that it failed.

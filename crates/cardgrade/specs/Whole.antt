@@ -1,23 +1,18 @@
--- What reading the input came to. Assumes nothing.
+-- That the bytes read are the whole input, as far as it decides what is printed. Assumes nothing.
 use Prim.Native.Nat.{ℕ, _<_, _≤_}
 use mathlib.Core.Path.{_≡_}
 use mathlib.Core.Bool.{true, false}
 use mathlib.Core.List.{List}
 use lib.ListN.{length, take}
 use Rattle.report.specs.Report.{bytesWanted, maxInput}
-use Rattle.cardgrade.specs.declared.reads.Source.{Source}
-use Rattle.cardgrade.specs.declared.reads.Answer.the-variants.{End}
-use Rattle.cardgrade.specs.declared.Reading.{Reading}
-use Rattle.cardgrade.specs.declared.Reading.the-variants.{Read, Failed}
-use Rattle.cardgrade.specs.Reads.{failed}
+use Rattle.cardinput.specs.declared.reads.Source.{Source}
+use Rattle.cardinput.specs.declared.reads.Answer.the-variants.{End}
+use Rattle.cardinput.specs.declared.Reading.{Reading}
+use Rattle.cardinput.specs.declared.Reading.the-variants.{Read, Failed}
+use Rattle.cardinput.specs.Reads.{failed}
 
--- THE BYTES ARE ALL THAT WERE WANTED, OR ALL THAT THERE WERE: there are fewer only where the last read answered that the input ends, and it did not
--- fail. Reading is told as failed only where the last read did.
-abbrev pub Came : ℕ → Reading → Type 0
-Came wanted (Read s) = (s .handed ≤ wanted) × (s .handed < wanted → s .last ≡ End) × (failed (s .last) ≡ false)
-Came wanted (Failed s) = failed (s .last) ≡ true
-
--- and the bytes wanted are those that decide what is printed, by the first four of the buffer b that was read into
+-- ALL THAT DECIDES WAS READ: as `Came` (`cardinput`, specs/Reading.antt), where the bytes wanted are those that decide what is printed, by the first
+-- four of the buffer b that was read into
 abbrev pub CameAll : List ℕ → Reading → Type 0
 CameAll b (Read s) = (s .handed ≤ maxInput) × (s .handed < bytesWanted (take 4 b) → s .last ≡ End) × (failed (s .last) ≡ false)
 CameAll b (Failed s) = failed (s .last) ≡ true

@@ -1,7 +1,7 @@
--- `cardgrade::reads::read_more` meets its contract. What was read fits in the part that was lent. Assumes nothing.
-use Rattle.cardgrade.proofs.reads.read_more.Tie as tie
-use Rattle.cardgrade.proofs.reads.read_more.Statement.{statement}
-use Rattle.cardgrade.specs.Reads.{taken, toldBy, Grown}
+-- `cardinput::reads::read_more` meets its contract. What was read fits in the part that was lent. Assumes nothing.
+use Rattle.cardinput.proofs.reads.read_more.Tie as tie
+use Rattle.cardinput.proofs.reads.read_more.Statement.{statement}
+use Rattle.cardinput.specs.Reads.{taken, toldBy, Grown}
 use Rattle.libc.specs.Io.{Moved}
 use Prim.Native.Nat.{ℕ, zero, suc, _+_, _-_, _≤_}
 use borrow.Author.Needs.{needs}

@@ -1,8 +1,8 @@
--- `cardgrade::read_on` meets its contract. The bytes handed out are within those wanted, and those that were there stay. Assumes nothing.
-use Rattle.cardgrade.proofs.read_on.Tie as tie
-use Rattle.cardgrade.proofs.read_on.Statement.{statement}
-use Rattle.cardgrade.proofs.Whole.{shorter-fronts}
-use Rattle.cardgrade.specs.Reads.{failed}
+-- `cardinput::read_on` meets its contract. The bytes handed out are within those wanted, and those that were there stay. Assumes nothing.
+use Rattle.cardinput.proofs.read_on.Tie as tie
+use Rattle.cardinput.proofs.read_on.Statement.{statement}
+use Rattle.cardinput.proofs.Fronts.{shorter-fronts}
+use Rattle.cardinput.specs.Reads.{failed}
 use Prim.Native.Nat.{_≤_, _-_}
 use borrow.Author.Needs.{needs}
 use lib.ListN.{length, take}

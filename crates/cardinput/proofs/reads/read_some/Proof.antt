@@ -1,6 +1,6 @@
--- `cardgrade::reads::read_some` meets its contract. The room keeps its length from try to try. Assumes nothing.
-use Rattle.cardgrade.proofs.reads.read_some.Tie as tie
-use Rattle.cardgrade.proofs.reads.read_some.Statement.{statement}
+-- `cardinput::reads::read_some` meets its contract. The room keeps its length from try to try. Assumes nothing.
+use Rattle.cardinput.proofs.reads.read_some.Tie as tie
+use Rattle.cardinput.proofs.reads.read_some.Statement.{statement}
 use borrow.Author.Needs.{needs}
 use Prim.Native.Nat.{_≤_, _-_}
 use lib.ListN.{length}

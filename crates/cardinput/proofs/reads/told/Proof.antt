@@ -1,9 +1,9 @@
--- `cardgrade::reads::told` meets its contract. A signed number is tested, and cast, as it is read back from its bits. Assumes nothing.
-use Rattle.cardgrade.proofs.reads.told.Tie as tie
-use Rattle.cardgrade.proofs.reads.told.Statement.{statement}
-use Rattle.cardgrade.specs.declared.reads.Answer.the-variants.{Bytes, End, Error}
-use Rattle.cardgrade.specs.declared.reads.Source.{Source}
-use Rattle.cardgrade.specs.Reads.{taken, toldBy}
+-- `cardinput::reads::told` meets its contract. A signed number is tested, and cast, as it is read back from its bits. Assumes nothing.
+use Rattle.cardinput.proofs.reads.told.Tie as tie
+use Rattle.cardinput.proofs.reads.told.Statement.{statement}
+use Rattle.cardinput.specs.declared.reads.Answer.the-variants.{Bytes, End, Error}
+use Rattle.cardinput.specs.declared.reads.Source.{Source}
+use Rattle.cardinput.specs.Reads.{taken, toldBy}
 use Prim.Native.Nat.{ℕ, zero, suc, _+_}
 use borrow.Author.Tests.{ltb-true, ltb-false}
 use lib.Dec.{T}

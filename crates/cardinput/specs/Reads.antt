@@ -3,9 +3,9 @@ use Prim.Native.Nat.{ℕ, zero, suc, _+_, _<_, _≤_}
 use mathlib.Core.Path.{_≡_}
 use mathlib.Core.Bool.{Bool, true, false}
 use lib.IntN.{ℤ, pos, negsuc}
-use Rattle.cardgrade.specs.declared.reads.Answer.{Answer}
-use Rattle.cardgrade.specs.declared.reads.Answer.the-variants.{Bytes, End, Error}
-use Rattle.cardgrade.specs.declared.reads.Source.{Source}
+use Rattle.cardinput.specs.declared.reads.Answer.{Answer}
+use Rattle.cardinput.specs.declared.reads.Answer.the-variants.{Bytes, End, Error}
+use Rattle.cardinput.specs.declared.reads.Source.{Source}
 
 -- how many bytes a read's number says that it handed out
 abbrev pub taken : ℤ → ℕ

@@ -1,0 +1,2 @@
+-- The laws, beside the proofs of functions.
+pub mod Fronts
