@@ -3,7 +3,7 @@ use mathlib.Core.Path.{refl}
 use borrow.Author.Needs.{needs}
 use Rattle.answers.specs.Calls.{lent}
 use Rattle.answers.proofs.Ends.{breaks, finishes}
-use Rattle.join.proofs.Written.{both-within-limits, tests-told, words-fit, words-ask}
+use Rattle.join.proofs.Laws.{both-within-limits, tests-told, words-fit, words-ask}
 use Rattle.join.proofs.join_accepted.Statement.{statement}
 use Rattle.join.proofs.join_accepted.Tie as tie
 

@@ -1,0 +1,2 @@
+-- How the words of a card are written piece after piece.
+mod Written

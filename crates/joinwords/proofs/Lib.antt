@@ -1,0 +1,3 @@
+-- The loops that look at wires and write words, and the joined card as it is written.
+pub mod Laws
+pub mod Written
