@@ -47,14 +47,15 @@ def odd_design(vectors: Optional[list[int]] = None) -> Summary:
     return summarize(design, made.grading, "a <list>.vec")
 
 
-def xor_design() -> Summary:
+def xor_design(vectors: Optional[list[int]] = None) -> Summary:
     """An XOR of two inputs, each on one pin, as a netlist's cell U: its pins are BUF lines, and four NANDs are inside."""
     gates = [0, 0, 0x34000001, 0x60000000, 0x34000001, 0x60000001, NAND, 0x60000002, 0x60000003, NAND, 0x60000002, 0x60000004,
              NAND, 0x60000003, 0x60000004, 0x48000002, 0x60000005, 0x60000006]
     inside = Site("", 3, "XOR U")
     lines = [Site("a", 1), Site("b", 2), Site("U/A", 3), Site("U/B", 3), inside, inside, inside, Site("y", 3)]
     design = Design("xor.bench", gates, True, ["a", "b"], [("y", 7)], [inside] * 10, lines, [])
-    return summarize(design, grade_all(card_of_gates(gates), pack(all_vectors(2).bits, 2), 1, None, Brute()))
+    words = pack(all_vectors(2).bits, 2) if vectors is None else vectors
+    return summarize(design, grade_all(card_of_gates(gates), words, 1, None, Brute()))
 
 
 class Numbers(unittest.TestCase):
@@ -67,6 +68,7 @@ class Numbers(unittest.TestCase):
         made = c17()
         self.assertEqual((made.each, made.uncollapsed, made.collapsed), (Share(46, 46), Share(34, 34), Share(22, 22)))
         self.assertEqual((made.growth[-1], made.uncaught, made.firsts), ((4, 22), [], [0, 1, 2, 3]))
+        self.assertEqual([made.caught_after(vectors) for vectors in range(6)], [0, 7, 14, 17, 22, 22])
 
     def test_uncollapsed_is_the_grade(self) -> None:
         for seed in range(30):
@@ -94,6 +96,9 @@ class Numbers(unittest.TestCase):
         self.assertEqual(len(made.own), 10)
         self.assertEqual((made.each, made.uncollapsed, made.collapsed), (Share(10, 10), Share(6, 6), Share(6, 6)))
         self.assertIn("10 of 36: the other 26 are inside", " ".join(report_text(made).split()))
+        self.assertEqual([made.labels.name(group[0]) for group in made.groups], ["U/A", "U/A", "U/B", "U/B", "y", "y"])
+        self.assertEqual(made.firsts, [0, 1, 2])  # all four vectors are the first to catch some fault, the last one those inside
+        self.assertEqual(set(made.grading.marks), {0, 1, 2, 3})
 
     def test_unseen(self) -> None:
         card, words = example("leads.words")

@@ -92,6 +92,7 @@ class Files(unittest.TestCase):
 
     def test_header(self) -> None:
         self.assertEqual(self.read(b"N7 N6 N3 N2 N1\n10000\n01111\n"), ["00001", "11110"])
+        self.assertEqual(self.read(b"N2 N3 N7 N1 N6\n10000\n00100\n"), ["01000", "00001"])
         self.assertEqual(self.read(b"# order\nN1  N2\tN3 N6 N7 # names\n10000\n"), ["10000"])
         self.assertEqual(self.read(b"N1 N2 N3 N6 N7\n"), [])
 
