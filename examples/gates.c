@@ -4,7 +4,7 @@
  *
  *   rt staticlib cardhost
  *   gcc -O2 examples/gates.c target/staticlib/libcardhost.a -o gates
- *   examples/bytes examples/c17.gates >list
+ *   ./cardgrade --bytes examples/c17.gates >list
  *   ./gates list >c17.words
  *
  * A refusal is one line: `refused`, its number and its position in the gate list. Exit status: 0 for a card,

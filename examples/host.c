@@ -4,7 +4,7 @@
  *
  *   rt staticlib cardhost
  *   gcc -O2 examples/host.c target/staticlib/libcardhost.a -o host
- *   examples/bytes examples/s.words | ./host
+ *   ./cardgrade --bytes examples/s.words | ./host
  *
  * Exit status: 0 after a grading; 1 after refused, short or long; 2 where reading or writing fails.
  */

@@ -5,8 +5,8 @@
  *
  *   rt staticlib cardhost
  *   gcc -O2 examples/join.c target/staticlib/libcardhost.a -o join
- *   examples/bytes examples/fulladder.words >adder
- *   examples/bytes examples/ripple.wires >wires
+ *   ./cardgrade --bytes examples/fulladder.words >adder
+ *   ./cardgrade --bytes examples/ripple.wires >wires
  *   ./join adder adder wires >two-bits.words
  *
  * A refusal is one line: `refused`, its number and position, then the part that it is about, A, B, wires
