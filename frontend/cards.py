@@ -10,15 +10,19 @@ FREE_WIRE = 0xFFFFFFFF
 FUNCTIONS = ("AND", "OR", "NAND", "NOR", "NOT", "BUF")
 
 
-def joined_text(card: Sequence[int], a: Sequence[int], b: Sequence[int], wires: Sequence[int], vectors: Iterable[int]) -> str:
-    """A joined card and its vectors; each graph with the one of A or B that it was."""
-    origins = joined_graphs(a, b, wires)
+def joined_text(card: Sequence[int], origins: Sequence[tuple[str, int]], vectors: Iterable[int],
+                graph_names: Sequence[str] = (), node_names: Sequence[str] = ()) -> str:
+    """A joined card and its vectors; each graph with the one of A or B that it was, and with names where there are any."""
 
     def graph_is(graph: int) -> str:
         part, number = origins[graph]
-        return f"graph {number} of {part}"
+        return f"graph {number} of {part}{_named(graph_names, graph)}"
 
-    return _text(card, vectors, graph_is, lambda node: f"node {node} reads")
+    def node_is(node: int) -> str:
+        name = _named(node_names, node)
+        return f"node {node}{name}, reads" if name else f"node {node} reads"
+
+    return _text(card, vectors, graph_is, node_is)
 
 
 def joined_graphs(a: Sequence[int], b: Sequence[int], wires: Sequence[int]) -> list[tuple[str, int]]:

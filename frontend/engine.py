@@ -57,8 +57,6 @@ def _run(program: str, given: int, take: Callable[[int], bytes]) -> bytes:
     process = 0
     try:
         process = _start(program, given, there)
-        os.close(given)
-        os.close(there)
         text = take(out)
         ended = os.waitpid(process, 0)[1]
     except BaseException as error:
@@ -75,12 +73,15 @@ def _run(program: str, given: int, take: Callable[[int], bytes]) -> bytes:
 
 
 def _start(program: str, given: int, out: int) -> int:
-    """A process of the program; its number."""
+    """A process of the program with these descriptors, which are closed here; its number."""
     actions = [(os.POSIX_SPAWN_DUP2, given, 0), (os.POSIX_SPAWN_DUP2, out, 1)]
     try:
         return os.posix_spawn(program, [program], os.environ, file_actions=actions, setsigdef=[signal.SIGPIPE])
     except OSError:
         raise Failed(f"{program}: no program that can be run") from None
+    finally:
+        os.close(given)
+        os.close(out)
 
 
 def _end(process: int) -> None:

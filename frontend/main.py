@@ -4,24 +4,17 @@ from __future__ import annotations
 
 import os
 import signal
-import stat
 import sys
 
 from frontend import files
-from frontend.errors import Failed, Stopped, Told
+from frontend.errors import Failed, Refused, Stopped, Told
 from frontend.options import USAGE, Options, parse
-from frontend.words import Text, program_input, read_text
 
 TYPE_CHECKING = False
 if TYPE_CHECKING:
     from collections.abc import Sequence
     from types import FrameType
     from typing import NoReturn, Optional
-
-    from frontend.refusals import Subject
-
-MOST_VECTORS = 16384
-WORDS_HINT = "; a text of words is named FILE.words"
 
 
 def start(arguments: Sequence[str]) -> NoReturn:
@@ -63,6 +56,8 @@ def _words_of(error: BaseException) -> str:
         return str(error)
     if isinstance(error, OSError) and error.strerror:
         return f"{error.filename}: {error.strerror}" if error.filename else error.strerror
+    if isinstance(error, MemoryError):
+        return "there is not enough memory"
     place = error.__traceback__
     while place and place.tb_next:
         place = place.tb_next
@@ -74,167 +69,108 @@ def run(arguments: Sequence[str]) -> int:
     """Does what the arguments ask for; the status, where it is not an error."""
     options = parse(arguments)
     if options.help:
-        return _print_usage()
+        _print_usage()
+        return 0
     if not options.names and 0 not in files.closed and os.isatty(0):
         files.tell(USAGE[:-1])
         return 2
-    reads_input = options.names in ([], ["-"]) and not options.mode
-    if not reads_input:
-        for name in options.names:
-            files.check_file(name)
-    elif 0 in files.closed:
-        raise Failed("standard input is closed")
-    if options.is_makers:
-        from frontend import makers
-        return makers.run(options)
-    return _run_plain(options, reads_input)
+    _check_files(options)
+    try:
+        if options.is_makers:
+            from frontend import makers
+            makers.run(options)
+        else:
+            _run_plain(options)
+    except Refused as refusal:
+        files.write_text(refusal.line.encode("ascii") + b"\n")
+        files.tell(refusal.words)
+        return 1
+    return 0
 
 
-def _run_plain(options: Options, reads_input: bool) -> int:
-    """Words and bytes alone, without names and reports."""
-    names = options.names
-    if options.mode == "--bytes":
-        return print_bytes(names[0])
-    if len(names) == 3:
-        return grade_pair(names, options.mode == "--join")
-    if not reads_input and names[0].endswith(".gates"):
-        return grade_gates(names[0], options.mode == "--card")
-    if not reads_input and names[0].endswith(".words"):
-        return grade_text(names[0])
-    return grade_bytes(None if reads_input else names[0])
-
-
-def _print_usage() -> int:
+def _print_usage() -> None:
     try:
         files.write_all(1, USAGE.encode())
     except OSError as error:
         raise Failed(f"standard output: {error.strerror}") from None
-    return 0
 
 
-# ---- texts and bytes ----
+def _check_files(options: Options) -> None:
+    """What cannot be read is told before anything is built."""
+    if options.reads_input:
+        if 0 in files.closed:
+            raise Failed("standard input is closed")
+        return
+    for name in options.names:
+        files.check_file(name)
 
 
-def grade_text(name: str) -> int:
+# ---- words and bytes alone, without names and reports ----
+
+
+def _run_plain(options: Options) -> None:
+    names = options.names
+    if options.mode == "--bytes":
+        print_bytes(names[0])
+    elif len(names) == 3:
+        grade_pair(names, options.mode == "--join")
+    elif options.reads_input:
+        grade_bytes(None)
+    elif names[0].endswith(".gates"):
+        grade_gates(names[0], options.mode == "--card")
+    elif names[0].endswith(".words"):
+        grade_text(names[0])
+    else:
+        grade_bytes(names[0])
+
+
+def grade_text(name: str) -> None:
     """A text of words."""
-    from frontend.engine import run_program
+    from frontend.answers import grade
+    from frontend.words import read_text
     text = read_text(name)
-    return finish(run_program(program_input(text.card, text.vectors)), name, text)
+    grade(text.card, text.vectors, name, text)
 
 
-def grade_bytes(name: Optional[str]) -> int:
+def grade_bytes(name: Optional[str]) -> None:
     """The bytes of a file, or of standard input, as they are."""
+    from frontend.answers import finish
     from frontend.engine import run_program_on
     if name is None:
-        return finish(run_program_on(0), "standard input")
-    return finish(run_program_on(name), name)
+        finish(run_program_on(0), "standard input")
+    else:
+        finish(run_program_on(name), name)
 
 
-def print_bytes(name: str) -> int:
+def print_bytes(name: str) -> None:
     """The bytes of a text, which may be longer than what is graded."""
+    from frontend.words import program_input, read_text
     text = read_text(name, sys.maxsize, sys.maxsize)
     files.write_text(program_input(text.card, text.vectors))
-    return 0
 
 
-# ---- cards that are made first ----
-
-
-def grade_pair(names: Sequence[str], prints: bool) -> int:
+def grade_pair(names: Sequence[str], prints: bool) -> None:
     """Card B on card A by their wires: graded, or printed."""
-    from frontend.cards import joined_text
-    from frontend.engine import library
-    a, b, wires = (read_text(name) for name in names)
-    answer, card = library().join(a.card, b.card, wires.card)
-    if answer >> 32:
-        from frontend.refusals import pair_refused
-        number, at = answer >> 32, answer & 0xFFFFFFFF
-        a_is_refused = library().check(a.card)[0] >> 32 != 0
-        return _refuse(number, at, pair_refused(a, b, wires, number, at, a_is_refused))
+    from frontend.answers import grade, print_card
+    from frontend.sources import read_pair
+    pair = read_pair(names)
+    wires = pair.wires
     if prints:
-        return _print_card(joined_text(card, a.card, b.card, wires.card, wires.vectors), wires)
-    return _grade_made(card, wires)
+        from frontend.cards import joined_text
+        print_card(joined_text(pair.card, pair.origins(), wires.vectors), wires.vectors, wires.name, wires)
+    else:
+        grade(pair.card, wires.vectors, wires.name, wires)
 
 
-def grade_gates(name: str, prints: bool) -> int:
+def grade_gates(name: str, prints: bool) -> None:
     """The card of a gate list: graded, or printed."""
-    from frontend.cards import gates_text
-    from frontend.engine import library
+    from frontend.answers import grade, print_card
+    from frontend.sources import card_of_gates
+    from frontend.words import read_text
     gates = read_text(name)
-    answer, card = library().from_gates(gates.card)
-    if answer >> 32:
-        from frontend.refusals import Subject
-        number, at = answer >> 32, answer & 0xFFFFFFFF
-        return _refuse(number, at, Subject(name, gates, gates=True).refused(number, at))
+    card = card_of_gates(gates)
     if prints:
-        return _print_card(gates_text(card, gates.card, gates.vectors), gates)
-    return _grade_made(card, gates)
-
-
-def _refuse(number: int, at: int, words: str) -> int:
-    files.write_text(b"refused %d %d\n" % (number, at))
-    files.tell(words)
-    return 1
-
-
-def _grade_made(card: Sequence[int], source: Text) -> int:
-    """A card that was made, with the vectors of a text."""
-    from frontend.engine import run_program
-    return finish(run_program(program_input(card, source.vectors)), source.name, source)
-
-
-def _print_card(text: str, source: Text) -> int:
-    """Such a card as a text. More vectors than are graded are refused as they are there."""
-    if len(source.vectors) > MOST_VECTORS:
-        return finish(b"long\n", source.name, source)
-    files.write_text(text.encode())
-    return 0
-
-
-# ---- what the program said ----
-
-
-def finish(said: bytes, name: str, text: Optional[Text] = None) -> int:
-    """Writes the program's text, and says in words what is wrong where it is one line. A grading without its last line is none."""
-    if said.startswith(b"card ") and said.endswith(b"\n") and said[:-1].rpartition(b"\n")[2].startswith(b"grade "):
-        files.write_text(said)
-        return 0
-    from frontend.refusals import Subject
-    words = _explain(said, Subject(name, text, hint="" if text else WORDS_HINT))
-    if words is None:
-        raise Failed(f"{name}: no whole grading came of it")
-    files.write_text(said)
-    files.tell(words)
-    return 1
-
-
-def _explain(said: bytes, subject: Subject) -> Optional[str]:
-    """What is wrong, where the program said so."""
-    if said == b"short\n":
-        return _short(subject.name)
-    if said == b"long\n":
-        return subject.long()
-    fields = said.split()
-    if len(fields) != 3 or said != b"refused %s %s\n" % tuple(fields[1:]) or not (fields[1] + fields[2]).isdigit():
-        return None
-    return subject.refused(int(fields[1]), int(fields[2]))
-
-
-def _short(name: str) -> str:
-    """Of a file the count can be read again."""
-    first = b""
-    size = 0
-    try:
-        fd = os.open(name, os.O_RDONLY | os.O_NONBLOCK)
-        try:
-            status = os.fstat(fd)
-            if stat.S_ISREG(status.st_mode):
-                first, size = os.read(fd, 4), status.st_size
-        finally:
-            os.close(fd)
-    except OSError:
-        pass
-    if len(first) == 4:
-        return (f"{name}: its word count asks for a card of {int.from_bytes(first, 'big')} words, and its {size} bytes end before the card does,"
-                " or inside a word")
-    return f"{name}: it ends before the card that its word count asks for does, or inside a word"
+        from frontend.cards import gates_text
+        print_card(gates_text(card, gates.card, gates.vectors), gates.vectors, name, gates)
+    else:
+        grade(card, gates.vectors, name, gates)
