@@ -191,7 +191,7 @@ class Place(Case):
         os.chmod(self.path("target/bin"), 0o755)
 
     def test_no_room(self) -> None:
-        with mock.patch.dict(os.environ, {"PATH": self.tools}), mock.patch.object(lock, "ROOM", 10**18):
+        with mock.patch.dict(os.environ, {"PATH": self.tools, "CARDGRADE": ""}), mock.patch.object(lock, "ROOM", 10**18):
             with self.assertRaisesRegex(errors.Failed, "/target has room for [0-9]+ MB, and building takes up to [0-9]+ MB$"):
                 build.program(self.root)
         self.assertEqual(self.count("calls"), 0)
