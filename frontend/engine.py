@@ -22,6 +22,9 @@ MOST_GRAPHS = 1024
 MOST_NODES = 4096
 MOST_FAULTS = 2 * MOST_NODES + 2 * MOST_GRAPHS
 
+# The signals that ask for the end.
+STOPPING = (signal.SIGHUP, signal.SIGINT, signal.SIGTERM)
+
 
 def root() -> str:
     """The project's folder."""
@@ -55,8 +58,10 @@ def _run(program: str, given: int, take: Callable[[int], bytes]) -> bytes:
     """Runs the program on a descriptor, which is closed here, and takes its text. A program that does not end well has none."""
     out, there = os.pipe()
     process = 0
+    held = signal.pthread_sigmask(signal.SIG_BLOCK, STOPPING)  # until the process is known, by which it is ended
     try:
-        process = _start(program, given, there)
+        process = _start(program, given, there, held)
+        signal.pthread_sigmask(signal.SIG_SETMASK, held)
         text = take(out)
         ended = os.waitpid(process, 0)[1]
     except BaseException as error:
@@ -67,16 +72,17 @@ def _run(program: str, given: int, take: Callable[[int], bytes]) -> bytes:
         raise
     finally:
         os.close(out)
+        signal.pthread_sigmask(signal.SIG_SETMASK, held)
     if ended != 0:
         raise Failed("the program was cut short")
     return text
 
 
-def _start(program: str, given: int, out: int) -> int:
-    """A process of the program with these descriptors, which are closed here; its number."""
+def _start(program: str, given: int, out: int, held: set[int]) -> int:
+    """A process of the program with these descriptors, which are closed here, and these signals held back; its number."""
     actions = [(os.POSIX_SPAWN_DUP2, given, 0), (os.POSIX_SPAWN_DUP2, out, 1)]
     try:
-        return os.posix_spawn(program, [program], os.environ, file_actions=actions, setsigdef=[signal.SIGPIPE])
+        return os.posix_spawn(program, [program], os.environ, file_actions=actions, setsigmask=held, setsigdef=[signal.SIGPIPE])
     except OSError:
         raise Failed(f"{program}: no program that can be run") from None
     finally:

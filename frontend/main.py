@@ -139,7 +139,7 @@ def grade_bytes(name: Optional[str]) -> None:
     if name is None:
         finish(run_program_on(0), "standard input")
     else:
-        finish(run_program_on(name), name)
+        finish(run_program_on(name), name, file=name)
 
 
 def print_bytes(name: str) -> None:
