@@ -51,7 +51,9 @@ class Arguments(FilesCase):
         self.assertEqual(self.failed("--bytes", "a.words", "--exhaustive"), "--bytes takes a text of words alone")
 
     def test_what_makers_ask_for(self) -> None:
-        for plain in (["a.words"], ["a.gates"], ["a"], [], ["-"], ["a", "b", "c"], ["--join", "a", "b", "c"], ["--bytes", "a.json"], ["--", "a"]):
+        plains: list[list[str]] = [["a.words"], ["a.gates"], ["a"], [], ["-"], ["a", "b", "c"], ["--join", "a", "b", "c"], ["--bytes", "a.json"],
+                                   ["--", "a"]]
+        for plain in plains:
             self.assertFalse(parse(plain).is_makers, plain)
         for made in (["a.bench"], ["a.V"], ["--card", "a.json"], ["a.words", "--names", "n"], ["a", "b", "c", "--exhaustive"], ["x.gates", "--html", "-"]):
             self.assertTrue(parse(made).is_makers, made)
