@@ -9,6 +9,7 @@ from __future__ import annotations
 
 import io
 import os
+import signal
 import sys
 import unittest
 
@@ -16,7 +17,15 @@ HERE = os.path.dirname(os.path.abspath(__file__))
 sys.path.insert(0, os.path.dirname(os.path.dirname(HERE)))
 
 
+def hear_signals() -> None:
+    """A shell lets what it starts in the background ignore some signals, and what that starts would ignore them too."""
+    signal.signal(signal.SIGINT, signal.default_int_handler)
+    for each in (signal.SIGHUP, signal.SIGQUIT, signal.SIGTERM):
+        signal.signal(each, signal.SIG_DFL)
+
+
 def main(chosen: list[str]) -> int:
+    hear_signals()
     names = chosen or sorted(name[:-3] for name in os.listdir(HERE) if name.startswith("test_") and name.endswith(".py"))
     tests = unittest.TestSuite(unittest.defaultTestLoader.loadTestsFromName(f"frontend.tests.{name}") for name in names)
     said = io.StringIO()
