@@ -110,6 +110,16 @@ BITS: List[Any] = [*PARTS, [[2]], [2, 3], ["0"], ["1"], ["x"], [True], [None], [
 TYPES = ["$_DFF_P_", "$_DLATCH_N_", "$_SR_PP_", "$add", "$_TBUF_", "sub", "m", "$_XOR_", "$_NOT_", "$_MUX_", "NAND", "NOR2", "inv"]
 
 
+# What is put before a part so that a name is there twice, of which a reader takes one without a word.
+TWICE = [
+    (b'"u": {', b'"u": {"type": "$_OR_", "connections": {"A": [2], "B": [3], "Y": [4]}},'), (b'"A": [', b'"A": [3],'),
+    (b'"type"', b'"type": "$_OR_",'), (b'"b": {', b'"b": {"direction": "input", "bits": [9]},'), (b'"cells": {', b'"cells": {},'),
+    (b'"top"', b'"top": "0",'),
+    (b'"direction"', b'"direction": "output",'), (b'"bits"', b'"bits": [9],'), (b'"m": {', b'"m": {},'), (b'"modules": {', b'"modules": {},'),
+    (b'"parameters": {', b'"parameters": {},'), (b'"hide_name"', b'"hide_name": 1,'),
+]
+
+
 def odd_parts() -> Iterator[bytes]:
     """Each part of the module in the place of a value that it cannot have, and of some that it can."""
     for place in ("cells.u.connections.A", "ports.a.bits", "ports.y.bits", "netnames.y.bits"):
@@ -133,7 +143,7 @@ def yosys() -> List[bytes]:
         b'{"a": ' + b"9" * 100000 + b"}", b'{"modules": NaN}', b'{"modules": {"m": {"ports": {}, "cells": {}, "ports": {}}}}',
         whole[:-20], whole + b"}", b"\xef\xbb\xbf" + whole, whole.replace(b"$_AND_", b"$_A\xffND_"), whole.replace(b'"u"', b'"\\u0000"'),
         whole.replace(b'"u"', b'"\\ud800"'), whole.replace(b'"m"', b'"\\ud800"'), whole.replace(b"\n", b"\r\n"), whole.replace(b"\n", b""),
-        whole.decode().encode("utf-16"), *odd_parts(),
+        whole.decode().encode("utf-16"), *odd_parts(), *(whole.replace(one, two + b"\n" + one, 1) for one, two in TWICE),
         changed(("cells.v", a_module()["cells"]["u"])), changed(("cells.u.connections.B", [4])), changed(("cells.u.connections.Y", ["0"])),
         changed(("cells.u.connections.C", [3])), changed(("cells.u.connections.A", ["1"])),
         changed(("ports.z", {"direction": "output", "bits": ["0"]})),
