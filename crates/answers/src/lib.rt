@@ -1,5 +1,7 @@
 // The rules of documents 01 and 02, the answers of a check and the replies of calls; in specs/ document 01's numbers for each, how tests come in their order, and
 // how any call goes.
+#![tactic(auto)]
+
 ghost use Rattle.std.specs.Prelude.{◌≡◌};
 ghost use Rattle.answers.specs.Answers.{number_of};
 ghost use Rattle.answers.specs.Ends.{end_refused};
@@ -20,7 +22,7 @@ pub const MAX_VECTORS: usize = 65535;
 pub const MAX_WIDTH: usize = MAX_GRAPHS / 16;
 
 // The rules of document 01's table of refusals, and those of the later requests. `rule_number` gives each its number.
-#[derive(Drop)]
+#[derive(Clone, Copy)]
 pub enum Rule {
     CardTooLong,
     TooManyGraphs,
@@ -42,7 +44,7 @@ pub enum Rule {
 }
 
 // The numbers that a check answers.
-#[derive(Drop)]
+#[derive(Clone, Copy)]
 pub struct Counts {
     pub inputs: usize,
     pub graphs: usize,
@@ -52,7 +54,7 @@ pub struct Counts {
 }
 
 // The answer of a check: a refusal has its rule and its position.
-#[derive(Drop)]
+#[derive(Clone, Copy)]
 pub enum Answer {
     Accepted(Counts),
     Refused(Rule, usize),
@@ -60,7 +62,7 @@ pub enum Answer {
 
 // The reply of a call that works on cards: done, with the number that it tells beside its buffers (the length of a change list, the marked
 // count of a grading, the number of words of a joined card or of the card of a gate list, else 0); or refused, as a check is.
-#[derive(Drop)]
+#[derive(Clone, Copy)]
 pub enum Reply {
     Done(usize),
     Refused(Rule, usize),
@@ -68,7 +70,7 @@ pub enum Reply {
 
 // How a worker ends, which does the work of a call for words and for bytes: the reply, and how many words it wrote to the front of its buffer, and of a
 // second one.
-#[derive(Drop)]
+#[derive(Clone, Copy)]
 pub struct Ended {
     pub reply: Reply,
     pub words: usize,
@@ -76,7 +78,7 @@ pub struct Ended {
 }
 
 // What a part of the check finds.
-#[derive(Drop)]
+#[derive(Clone, Copy)]
 pub enum Verdict {
     Sound,
     Broken(Rule, usize),

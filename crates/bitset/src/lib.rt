@@ -1,4 +1,6 @@
 // Sets of numbers in the bits of words, 32 in each: number i is bit i % 32 of the word that stands i / 32 after a base.
+#![tactic(auto)]
+
 ghost use Rattle.std.specs.Prelude.{◌≡◌, ℕ, ◌+◌, ◌/◌, ◌≤◌, ◌<◌, length, get_or};
 ghost use Rattle.bitset.specs.Members.{member, WithBit, Gains, Next};
 

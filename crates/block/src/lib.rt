@@ -1,4 +1,6 @@
 // A block of vectors taken in by the running result of a grading, one vector after the other.
+#![tactic(auto)]
+
 ghost use Rattle.std.specs.Prelude.{◌≤◌, ◌<◌, length};
 ghost use Rattle.cardtables.specs.Stems.{in_grade};
 ghost use Rattle.cardtables.specs.Tables.{Tabled};

@@ -1,5 +1,7 @@
 // The check of a card: its counts, or the first of document 01's rules that it breaks, and where.
 // It goes through the words once, forward, each word by the reader.
+#![tactic(auto)]
+
 ghost use Rattle.std.specs.Prelude.{◌≡◌, ◌+◌, ◌≤◌, eqb};
 ghost use Rattle.lists.specs.Counting.{choose};
 ghost use Rattle.word32.specs.Fields.{kind};
@@ -15,7 +17,7 @@ use nodecheck::Named;
 use reader::Due;
 
 // A sound header: its word, where it stands, and how many nodes follow.
-#[derive(Drop)]
+#[derive(Clone, Copy)]
 struct Header {
     word: u32,
     at: usize,
@@ -23,14 +25,14 @@ struct Header {
 }
 
 // What is due after some graphs: a graph more, or the check is over.
-#[derive(Drop)]
+#[derive(Clone, Copy)]
 enum Opening {
     Graph(Header),
     Over(Answer),
 }
 
 // What a graph comes to: the counts with it, or the check is over.
-#[derive(Drop)]
+#[derive(Clone, Copy)]
 enum Graph {
     Read(Counts),
     Over(Answer),

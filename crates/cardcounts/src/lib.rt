@@ -1,4 +1,6 @@
 // The check of a card with its numbers in a buffer, as a host has it.
+#![tactic(auto)]
+
 ghost use Rattle.std.specs.Prelude.{◌≡◌, ◌≤◌, min, length};
 ghost use Rattle.lists.specs.Tables.{front};
 ghost use Rattle.answers.specs.Limits.{max_faults};

@@ -4,6 +4,8 @@
 // Fewer are graded only where a read answered that the input ends: so the text is that of the whole input, given what is
 // trusted of the reads (the law `whole-input`, proofs/Whole.antt). A read that fails is no end of the input: then nothing is
 // printed but a message on standard error.
+#![tactic(auto)]
+
 ghost use Rattle.std.specs.Prelude.{◌≡◌, ◌≤◌, length};
 ghost use Rattle.report.specs.Report.{max_input};
 ghost use Rattle.textlines.specs.Text.{max_text};

@@ -1,4 +1,6 @@
 // Standard input, read on until the bytes wanted are there or it ends. A read that fails is no end of the input.
+#![tactic(auto)]
+
 pub mod reads;
 
 ghost use Rattle.std.specs.Prelude.{◌≡◌, false, ◌≤◌, length, take};
@@ -8,7 +10,7 @@ ghost use Rattle.cardinput.specs.Reading.{Came};
 use reads::{Answer, Source};
 
 // What reading came to: the bytes that the reads handed out, as many as were wanted or all that there were; or a read failed.
-#[derive(Drop)]
+#[derive(Clone, Copy)]
 pub enum Reading {
     Read(Source),
     Failed(Source),

@@ -8,7 +8,7 @@ ghost use Rattle.cardinput.specs.Reads.{taken, told_by, Grown};
 use libc::STDIN_FILENO;
 
 // What one read answered: so many bytes, one or more; none, at the end of the input; or that it failed.
-#[derive(Drop)]
+#[derive(Clone, Copy)]
 pub enum Answer {
     Bytes(usize),
     End,
@@ -16,7 +16,7 @@ pub enum Answer {
 }
 
 // How many bytes the reads have handed out, and what the last of them answered.
-#[derive(Drop)]
+#[derive(Clone, Copy)]
 pub struct Source {
     handed: usize,
     last: Answer,

@@ -1,4 +1,6 @@
 // The tables of an accepted card, made once: which graphs read each graph, its only reader, and which faults count in the grade.
+#![tactic(auto)]
+
 ghost use Rattle.std.specs.Prelude.{◌≡◌, List, not, ◌||◌, ℕ, ◌+◌, ◌*◌, ◌≤◌, ◌<◌, length, get_or, eqb};
 ghost use Rattle.lists.specs.Counting.{choose};
 ghost use Rattle.answers.specs.Limits.{max_graphs, max_nodes, max_sites};

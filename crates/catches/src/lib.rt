@@ -1,4 +1,6 @@
 // What one vector catches, by the marking rules: for each site the value at which it is stuck in the fault that is caught there, or 2.
+#![tactic(auto)]
+
 ghost use Rattle.std.specs.Prelude.{◌≡◌, List, true, not, ℕ, ◌+◌, ◌-◌, ◌*◌, ◌≤◌, ◌<◌, length, get_or, eqb};
 ghost use Rattle.lists.specs.Counting.{choose};
 ghost use Rattle.word32.specs.Fields.{exit_of};

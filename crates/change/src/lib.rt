@@ -1,4 +1,6 @@
 // The change walk of rule 2: one graph is flipped, and those above it are walked again with the flipped values.
+#![tactic(auto)]
+
 ghost use Rattle.std.specs.Prelude.{◌≡◌, List, ℕ, ◌+◌, ◌≤◌, ◌<◌, length, get_or};
 ghost use Rattle.lists.specs.Tables.{over};
 ghost use Rattle.layout.specs.Layout.{size};

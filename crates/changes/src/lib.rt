@@ -1,4 +1,6 @@
 // What changes under one vector: change lists and critical nodes, by the marking rules.
+#![tactic(auto)]
+
 ghost use Rattle.std.specs.Prelude.{◌≡◌, not, ◌+◌, ◌≤◌, ◌<◌, min, length, get_or, ltb, eqb};
 ghost use Rattle.lists.specs.Counting.{choose, count};
 ghost use Rattle.lists.specs.Tables.{over, chosen, front};

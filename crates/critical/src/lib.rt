@@ -1,5 +1,7 @@
 // Whether a graph is critical, by a change walk that ends at the first observable graph that changes. The walk goes by the sets of readers: a graph that
 // changes makes its readers due, and no graph is walked again that is not due.
+#![tactic(auto)]
+
 ghost use Rattle.std.specs.Prelude.{◌≡◌, List, false, ℕ, ◌+◌, ◌≤◌, ◌<◌, length, get_or};
 ghost use Rattle.answers.specs.Limits.{max_graphs};
 ghost use Rattle.bitset.specs.Members.{member, Gains};

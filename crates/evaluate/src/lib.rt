@@ -1,5 +1,7 @@
 // The evaluators of the plain path: values worked out afresh on demand, with the faults of a list in. A node's value calls for the value of the graph
 // that it reads, and that for its entrance's; each found value is saved in a lent buffer, a word for each site.
+#![tactic(auto)]
+
 ghost use Rattle.std.specs.Prelude.{◌≡◌, ℕ, ◌≤◌, ◌<◌, length, get_or};
 ghost use Rattle.lists.specs.Tables.{over};
 ghost use Rattle.layout.specs.Layout.{size};

@@ -1,4 +1,6 @@
 // The list of faults of a call on the plain path: whether its numbers are those of faults, at most eight of them, no two of one site.
+#![tactic(auto)]
+
 ghost use Rattle.std.specs.Prelude.{◌≡◌, drop};
 ghost use Rattle.answers.specs.Tests.{first_broken};
 ghost use Rattle.faultlist.specs.Faults.{too_high, at_site, site_twice, fault_tests};

@@ -1,1 +1,2 @@
 // The form of a card: definitions of what the check answers, and laws, in specs/ and proofs/.
+#![tactic(auto)]

@@ -1,4 +1,6 @@
 // The check of a gate list: its counts, or the first rule that it breaks, and where. It goes through the words once, forward.
+#![tactic(auto)]
+
 ghost use Rattle.std.specs.Prelude.{◌≡◌, ◌+◌, ◌≤◌, ◌<◌, length};
 ghost use Rattle.answers.specs.Limits.{max_graphs, max_nodes, max_words};
 ghost use Rattle.answers.specs.Tests.{first_broken};

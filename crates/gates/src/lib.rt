@@ -1,4 +1,6 @@
 // A gate list turned into a card: its check, and then the card's words.
+#![tactic(auto)]
+
 ghost use Rattle.std.specs.Prelude.{◌≤◌, min, length};
 ghost use Rattle.answers.specs.Limits.{max_words};
 ghost use Rattle.answers.specs.Calls.{lent, whole, ByWords};

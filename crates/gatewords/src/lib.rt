@@ -1,4 +1,6 @@
 // The words of the card of an accepted gate list, line by line.
+#![tactic(auto)]
+
 ghost use Rattle.std.specs.Prelude.{◌≡◌, ◌++◌, ◌+◌, ◌*◌, ◌≤◌, ◌<◌, length, get_or, take};
 ghost use Rattle.lists.specs.Tables.{chain, front};
 ghost use Rattle.word32.specs.Fields.{lead_count};

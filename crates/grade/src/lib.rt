@@ -1,4 +1,6 @@
 // The grading of a list of vectors, marks and tallies in one, by a running result. The list is given by words or in bytes, and read a block at a time.
+#![tactic(auto)]
+
 ghost use Rattle.std.specs.Prelude.{◌≡◌, ◌*◌, ◌≤◌, min, length};
 ghost use Rattle.answers.specs.Limits.{max_faults, max_width};
 ghost use Rattle.answers.specs.Tests.{first_broken};

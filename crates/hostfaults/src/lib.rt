@@ -1,5 +1,7 @@
 // A list of faults in bytes, read into words. It may be of any length, and a number too high is refused before the length is looked at, so that all of it is
 // looked at, however long.
+#![tactic(auto)]
+
 ghost use Rattle.std.specs.Prelude.{◌≡◌, max, length};
 ghost use Rattle.hostfaults.specs.Faults.{Highest, FaultsRead};
 

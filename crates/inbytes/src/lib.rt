@@ -1,5 +1,7 @@
 // What is lent in bytes, each word four of them, highest byte first: it is read into words. And how a host's call ends: its one number, and its words as
 // bytes.
+#![tactic(auto)]
+
 ghost use Rattle.std.specs.Prelude.{◌≡◌, ◌+◌, ◌*◌, ◌≤◌, ◌<◌, min, length, take};
 ghost use Rattle.answers.specs.Limits.{max_graphs, max_words, max_width};
 ghost use Rattle.answers.specs.declared.Reply.TheVariants as reply;

@@ -1,4 +1,6 @@
 // Two cards wired together: both are checked, then the wires, and the joined card's words are written.
+#![tactic(auto)]
+
 ghost use Rattle.std.specs.Prelude.{◌≡◌, ◌≤◌, min, length};
 ghost use Rattle.answers.specs.Limits.{max_words};
 ghost use Rattle.answers.specs.declared.Answer.TheVariants.{Accepted};

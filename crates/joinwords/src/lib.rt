@@ -1,5 +1,7 @@
 // The words of two cards wired together: the tests of the wires, and then the joined card's words: the inputs, A's outputs, B's outputs, every graph read
 // under its new number.
+#![tactic(auto)]
+
 ghost use Rattle.std.specs.Prelude.{◌≡◌, ◌++◌, ℕ, ◌+◌, ◌-◌, ◌*◌, ◌≤◌, ◌<◌, length, get_or, take};
 ghost use Rattle.lists.specs.Counting.{choose, least};
 ghost use Rattle.lists.specs.Tables.{at, tab, over, front};

@@ -1,4 +1,6 @@
 // The room of an accepted card's parts: where its nodes stand, what a node reads, decides and takes.
+#![tactic(auto)]
+
 ghost use Rattle.std.specs.Prelude.{◌≡◌, ◌+◌, ◌*◌, ◌-◌, ◌≤◌, ◌<◌, length, get_or};
 ghost use Rattle.lists.specs.Tables.{over};
 ghost use Rattle.word32.specs.Fields.{read_graph, exit_of};

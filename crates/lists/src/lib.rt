@@ -1,4 +1,6 @@
 // Lists and numbers with no card in them. The definitions are in specs/, the laws that the crates above cite in proofs/.
+#![tactic(auto)]
+
 ghost use Rattle.std.specs.Prelude.{◌≡◌, ◌≤◌, ◌<◌, length, get_or, set};
 ghost use Rattle.lists.specs.Tables.{over, always};
 

@@ -1,4 +1,6 @@
 // The nodes of one graph: each node's pair of words, as the reader hands them out, and the table of the local nodes that exits name.
+#![tactic(auto)]
+
 ghost use Rattle.std.specs.Prelude.{◌≡◌, ◌-◌, ◌≤◌, ◌<◌, length};
 ghost use Rattle.answers.specs.Limits.{max_nodes};
 ghost use Rattle.form.specs.Check.{misplaced};
@@ -11,7 +13,7 @@ use reader::{Due, Reader};
 pub type Named = [u32; MAX_NODES];
 
 // A node's two exits, where they are sound.
-#[derive(Drop)]
+#[derive(Clone, Copy)]
 enum Exits {
     Both(usize, usize),
     Bad(Rule, usize),

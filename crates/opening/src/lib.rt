@@ -1,5 +1,7 @@
 // How a call on a card opens: the card is checked, and then the form of the call's vectors, one or a list. `extra` and `left` tell how many bytes follow
 // the words of the card and of the vector that make no word.
+#![tactic(auto)]
+
 ghost use Rattle.std.specs.Prelude.{◌≡◌};
 ghost use Rattle.answers.specs.Calls.{lent};
 ghost use Rattle.testvectors.specs.Lists.{lent_list};

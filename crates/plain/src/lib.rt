@@ -1,4 +1,6 @@
 // The plain path: the calls that work a card out afresh, with no fault or with those of a list.
+#![tactic(auto)]
+
 ghost use Rattle.std.specs.Prelude.{◌≤◌, min, length};
 ghost use Rattle.answers.specs.Limits.{max_graphs};
 ghost use Rattle.answers.specs.Calls.{lent, whole, ByWords};

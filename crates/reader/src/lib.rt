@@ -1,5 +1,7 @@
 // A reader of lent words that goes forward only: a thin struct of the words and the position due, lent by `&mut` to what reads on. The work is in
 // `word_at` and `after`, over a plain slice and a number; `next` hands them what the reader holds.
+#![tactic(auto)]
+
 ghost use Rattle.std.specs.Prelude.{◌≡◌};
 ghost use Rattle.reader.specs.Due.{due_at, after_at};
 
@@ -11,7 +13,7 @@ pub struct Reader<'a> {
 }
 
 // What is due: a word and its position, or the end and the number of words.
-#[derive(Drop)]
+#[derive(Clone, Copy)]
 pub enum Due {
     Word(u32, usize),
     End(usize),

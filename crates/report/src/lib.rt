@@ -1,4 +1,6 @@
 // What cardgrade prints for the bytes that it reads, put into a buffer. specs/Report.antt says what that is.
+#![tactic(auto)]
+
 ghost use Rattle.std.specs.Prelude.{◌≡◌, ◌∷◌, [], ◌+◌, ◌*◌, ◌-◌, ◌/◌, ◌%◌, ◌<◌, ◌≤◌, length, get_or};
 ghost use Rattle.answers.specs.Limits.{max_words, max_faults};
 ghost use Rattle.lists.specs.Tables.{front};

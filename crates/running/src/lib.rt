@@ -1,5 +1,7 @@
 // The running result of a grading: it takes in what one vector catches at a time. No card is in it: the marks and the tallies of the faults lie in two
 // lent buffers, two words of each for each site, and a word for each site tells whether its two faults count in the grade.
+#![tactic(auto)]
+
 ghost use Rattle.std.specs.Prelude.{◌≡◌, ◌+◌, ◌*◌, ◌≤◌, ◌<◌, length, get_or, eqb};
 ghost use Rattle.answers.specs.Limits.{max_sites, max_vectors};
 ghost use Rattle.running.specs.Running.{Put, in_grade_by, found, Folded, TalliesUpTo, Counted};
@@ -60,7 +62,7 @@ fn take_sites(
 }
 
 // The running result of a grading: the number of the vector that is due, and how many of the faults that count are marked.
-#[derive(Drop)]
+#[derive(Clone, Copy)]
 pub struct Running {
     pub vector: u32,
     pub marked: usize,

@@ -1,5 +1,7 @@
 // The good values of all nodes and graphs of a card under one vector, in one sweep: graphs from the first to the last, in each its nodes from the last to
 // the first.
+#![tactic(auto)]
+
 ghost use Rattle.std.specs.Prelude.{◌≡◌, List, ℕ, ◌+◌, ◌-◌, ◌≤◌, ◌<◌, length, get_or};
 ghost use Rattle.layout.specs.Layout.{first, size};
 ghost use Rattle.layout.specs.Shape.{Shape};

@@ -1,5 +1,7 @@
 // The form of vectors: how many words, the bit of an input, refusal 10 of one vector and of a list, and one vector of a list. A list is lent by words or
 // in bytes, and read in place: where it has bytes, its words are those that they hold.
+#![tactic(auto)]
+
 ghost use Rattle.std.specs.Prelude.{◌≡◌, ◌+◌, ◌*◌, ◌<◌, ◌≤◌, length, get_or};
 ghost use Rattle.lists.specs.Tables.{over};
 ghost use Rattle.answers.specs.Limits.{max_graphs};

@@ -1,4 +1,6 @@
 // What cardgrade prints, put into a buffer line by line. specs/Text.antt says what the lines are.
+#![tactic(auto)]
+
 ghost use Rattle.std.specs.Prelude.{◌∷◌, [], ◌≡◌, ◌+◌, ◌*◌, ◌-◌, ◌<◌, ◌≤◌, length, get_or};
 ghost use Rattle.answers.specs.Limits.{max_faults};
 ghost use Rattle.textlines.specs.Text.{max_text, decimal, field, mark_field, count_fields, card_line, fault_line, fault_lines, line, grading_text, refused_line};

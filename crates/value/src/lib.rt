@@ -1,4 +1,6 @@
 // What faults make of a site, and the exit that a node takes.
+#![tactic(auto)]
+
 ghost use Rattle.std.specs.Prelude.{◌≡◌, ◌+◌, ◌*◌, ◌<◌, length, get_or};
 ghost use Rattle.word32.specs.Fields.{exit_of};
 ghost use Rattle.value.specs.Settings.{faulty};

@@ -1,4 +1,6 @@
 // 32-bit words: their fields, by shifts and masks, and the bytes that hold them, highest byte first.
+#![tactic(auto)]
+
 ghost use Rattle.std.specs.Prelude.{◌≡◌, ◌+◌, ◌*◌, ◌/◌, ◌<◌, ◌≤◌, length};
 ghost use Rattle.lists.specs.Tables.{over};
 ghost use Rattle.word32.specs.Fields.{kind, input_spare, header_spare, read_spare, exits_spare, node_count, read_graph, read_inverted, with_read, exit_of, bit_of};
