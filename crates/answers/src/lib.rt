@@ -85,6 +85,7 @@ pub enum Verdict {
 }
 
 // A rule's number: 1 to 12 in document 01, from 13 on in document 02.
+#[tactic(auto, unfolding(crate::specs::Answers::number_of))]
 pub fn rule_number(rule: Rule) -> u32
     ensures { result ≡ number_of rule }
 {

@@ -20,6 +20,7 @@ pub enum Due {
 }
 
 // What is due at a position of a slice.
+#[tactic(auto, unfolding(crate::specs::Due::due_at))]
 pub fn word_at(words: &[u32], at: usize) -> Due
     ensures { result ≡ due_at words.now at }
 {
@@ -31,6 +32,7 @@ pub fn word_at(words: &[u32], at: usize) -> Due
 }
 
 // The position due after that: the next, or the same at the end.
+#[tactic(auto, unfolding(crate::specs::Due::after_at))]
 pub fn after(words: &[u32], at: usize) -> usize
     ensures { result ≡ after_at words.now at }
 {
