@@ -1,0 +1,18 @@
+use Prim.Native.Nat.{◌-◌}
+use mathlib.Core.Path.{◌≡◌, refl, sym, ◌∙◌}
+use native.Mathlib.Omega.{arith}
+use Rattle.lists.proofs.Tables.{over_none, over-store}
+use borrow.Author.Rules.{rules}
+use Rattle.change.proofs.copy_values.Goals as goal
+
+pub loop-h-init : goal.loop-h-init
+loop-h-init c = (omega arith, refl, sym (over_none _ _))
+
+pub loop-h-preserved : goal.loop-h-preserved
+loop-h-preserved c =
+    (omega arith, search rules, c.put.ensures ∙ rw c.loop-h.invariant.2 (over-store _ _ c.loop-h.h _ (omega (arith, c.requires.1)) c.get-own.ensures))
+
+pub returns : goal.returns
+returns c =
+    let e : c.loop-h.h ≡ c.args.c.graphs = omega arith in
+    rw e at c.loop-h.invariant.2
