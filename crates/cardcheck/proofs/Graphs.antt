@@ -3,11 +3,8 @@
 -- shape of an accepted card, and the table is blank. Assumes nothing.
 use Prim.Native.Nat.{ℕ, ◌+◌, ◌-◌, ◌<◌, ◌≤◌}
 use mathlib.Core.Path.{◌≡◌, refl, sym, ap, ◌∙◌, subst}
-use mathlib.Core.WellFounded.InvImage
-use mathlib.Core.WellFounded.{WellFounded}
 use mathlib.Core.List.{List}
 use native.Mathlib.Omega.{arith}
-use lib.WfN.{lt-wf_rel}
 use Rattle.reader.specs.Due.{due_at, after_at}
 use Rattle.reader.specs.declared.Due.{Due}
 use Rattle.reader.proofs.Laws.{due-word, after-word}
@@ -32,27 +29,18 @@ use Rattle.cardcheck.proofs.Turns.{rest-go}
 abbrev pub all : List ℕ → ℕ → Answer
 all ws extra = rest ws extra 1025 (counts 0 0 0 0)
 
+-- where the loop stands: the graphs that c counts are read, the reader is at p, and the table is tb
+pub record Going (ws : List ℕ) (extra : ℕ) (c : Counts) (p : ℕ) (tb : List ℕ) : Type 0 where
+  pub at : p ≡ card_length c
+  pub shape : Shape ws c
+  pub blanks : Blank tb
+  pub same : rest ws extra (1025 - c.graphs) c ≡ all ws extra
+
 module _ (ws : List ℕ) (extra : ℕ) where
-  -- where the loop stands: the graphs that c counts are read, the reader is at p, and the table is tb
-  pub record Going : Type 0 where
-    pub c : Counts
-    pub p : ℕ
-    pub tb : List ℕ
-    pub at : p ≡ card_length c
-    pub shape : Shape ws c
-    pub blanks : Blank tb
-    pub same : rest ws extra (1025 - c.graphs) c ≡ all ws extra
+  pub begin : (t : List ℕ) → Blank t → Going ws extra (counts 0 0 0 0) 0 t
+  begin t blank = record { at = refl; shape = none_read ws; blanks = blank; same = refl }
 
-  abbrev pub Nearer : Going → Going → Type 0
-  Nearer j i = 1025 - j.c.graphs < 1025 - i.c.graphs
-
-  pub Nearer-wf : WellFounded Nearer
-  Nearer-wf = InvImage.wf (λ (i : Going). 1025 - i.c.graphs) lt-wf_rel.wf
-
-  abbrev pub begin : (t : List ℕ) → Blank t → Going
-  begin t blank = record { c = counts 0 0 0 0; p = 0; tb = t; at = refl; shape = none_read ws; blanks = blank; same = refl }
-
-  pub few : (i : Going) → Few i.c
+  pub few : {c : Counts} {p : ℕ} {tb : List ℕ} (i : Going ws extra c p tb) → Few c
   few i =
       let s = i.shape in
       record {
@@ -63,41 +51,41 @@ module _ (ws : List ℕ) (extra : ℕ) where
       }
 
   -- what was due where the reader stands
-  module _ (i : Going) (d : Due) (ed : d ≡ due_at ws i.p) where
-    pub here : d ≡ due_at ws (card_length i.c)
+  module _ {c : Counts} {p : ℕ} {tb : List ℕ} (i : Going ws extra c p tb) (d : Due) (ed : d ≡ due_at ws p) where
+    pub here : d ≡ due_at ws (card_length c)
     here = ed ∙ ap (due_at ws) i.at
 
-    pub may-open : (i.c.nodes ≤ 4096) × DueAfter d i.c
-    may-open = (i.shape.few-nodes, λ w at e. (due-word ws (card_length i.c) w at (sym here ∙ e)).2)
+    pub may-open : (c.nodes ≤ 4096) × DueAfter d c
+    may-open = (i.shape.few-nodes, λ w at e. (due-word ws (card_length c) w at (sym here ∙ e)).2)
 
-    pub over-now : (r : Opening) → OpeningTold d i.c extra r → (a : Answer) → r ≡ opening.Over a → a ≡ all ws extra
+    pub over-now : (r : Opening) → OpeningTold d c extra r → (a : Answer) → r ≡ opening.Over a → a ≡ all ws extra
     over-now r told a e = told.over ws i.shape here a e ∙ i.same
 
   -- a graph was opened with the header h, and its nodes told r, with the reader then at m and the table zs
-  module _ (i : Going) (h : Header) (o : Opened ws i.c h) where
+  module _ {c : Counts} {p : ℕ} {tb : List ℕ} (i : Going ws extra c p tb) (h : Header) (o : Opened ws c h) where
     pub few-nodes : h.nodes ≤ 4096
     few-nodes =
         let e : h.nodes ≡ _ = ap (λ (k : Header). k.nodes) o.header in
-        omega (arith, e, header-few (word ws (card_length i.c)) i.c i.shape.few-nodes o.sound)
+        omega (arith, e, header-few (word ws (card_length c)) c i.shape.few-nodes o.sound)
 
-    pub next-at : after_at ws i.p ≡ card_length i.c + 1
-    next-at = ap (after_at ws) i.at ∙ after-word ws (card_length i.c) o.inside
+    pub next-at : after_at ws p ≡ card_length c + 1
+    next-at = ap (after_at ws) i.at ∙ after-word ws (card_length c) o.inside
 
-    module _ (r : Verdict) (m : ℕ) (zs : List ℕ) (er : NodesTold ws (after_at ws i.p - 1) i.c.graphs h.nodes zs m r) where
-      pub told_at : NodesTold ws (card_length i.c) i.c.graphs h.nodes zs m r
+    module _ (r : Verdict) (m : ℕ) (zs : List ℕ) (er : NodesTold ws (after_at ws p - 1) c.graphs h.nodes zs m r) where
+      pub told_at : NodesTold ws (card_length c) c.graphs h.nodes zs m r
       told_at =
-          let e : after_at ws i.p - 1 ≡ card_length i.c = omega (arith, next-at) in
-          subst (λ (k : ℕ). NodesTold ws k i.c.graphs h.nodes zs m r) e er
+          let e : after_at ws p - 1 ≡ card_length c = omega (arith, next-at) in
+          subst (λ (k : ℕ). NodesTold ws k c.graphs h.nodes zs m r) e er
 
-      pub nodes-read : NodesRead ws i.c h r zs
+      pub nodes-read : NodesRead ws c h r zs
       nodes-read = record { opened = o; verdict = told_at.verdict; names = told_at.names }
 
-      module _ (t : List ℕ) (g : Graph) (told : GraphTold h r i.c zs t g) where
+      module _ (t : List ℕ) (g : Graph) (told : GraphTold h r c zs t g) where
         pub over-then : (a : Answer) → g ≡ graph.Over a → a ≡ all ws extra
         over-then a e = told.over ws extra i.shape nodes-read a e ∙ i.same
 
         module _ (c' : Counts) (e : g ≡ graph.Read c') (good : r ≡ Sound) where
-          abbrev pub said : (graph_verdict ws i.c ≡ Sound) × (c' ≡ with_graph (word ws (card_length i.c)) i.c) × Blank t
+          abbrev pub said : (graph_verdict ws c ≡ Sound) × (c' ≡ with_graph (word ws (card_length c)) c) × Blank t
           said = told.read ws nodes-read c' e
 
           pub reached : m ≡ card_length c'
@@ -105,16 +93,13 @@ module _ (ws : List ℕ) (extra : ℕ) where
               let n : h.nodes ≡ _ = ap (λ (k : Header). k.nodes) o.header in
               told_at.next good ∙ rw said.1 (omega (arith, n))
 
-          abbrev pub onward : Going
+          pub onward : Going ws extra c' m t
           onward = record {
-            c = c';
-            p = m;
-            tb = t;
             at = reached;
-            shape = subst (Shape ws) (sym said.1) (graph-step ws i.c i.shape o.inside said.0);
+            shape = subst (Shape ws) (sym said.1) (graph-step ws c i.shape o.inside said.0);
             blanks = said.2;
             same = ap (λ (k : Counts). rest ws extra (1025 - k.graphs) k) said.1 ∙ sym (rest-go i.shape extra o.inside said.0) ∙ i.same;
           }
 
-          pub nearer : Nearer onward i
+          pub nearer : 1025 - c'.graphs < 1025 - c.graphs
           nearer = rw said.1 (omega (arith, i.shape.few-graphs))

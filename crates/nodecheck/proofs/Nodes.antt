@@ -3,13 +3,10 @@
 -- the nodes before name. Assumes nothing.
 use Prim.Native.Nat.{ℕ, ◌+◌, ◌-◌, ◌*◌, ◌<◌, ◌≤◌}
 use mathlib.Core.Path.{◌≡◌, refl, sym, ap, ◌∙◌, subst}
-use mathlib.Core.WellFounded.InvImage
-use mathlib.Core.WellFounded.{WellFounded}
 use mathlib.Core.List.{List}
 use native.Mathlib.Nat.{sub-zero}
 use native.Mathlib.Numerals.{add-one}
 use native.Mathlib.Omega.{arith}
-use lib.WfN.{lt-wf_rel}
 use lib.ListN.{length}
 use Rattle.reader.specs.Due.{due_at, after_at}
 use Rattle.reader.specs.declared.Due.{Due}
@@ -24,29 +21,17 @@ use Rattle.nodecheck.specs.Table.{ReadTold, Blank, Names, ExitsTold, NodesTold}
 use Rattle.nodecheck.proofs.Table.{names-none, names_more, names-length}
 use Rattle.nodecheck.proofs.Turns.{nodes-end, read-stops, exits-stop, nodes-go}
 
+-- where the loop stands: k nodes are done, the reader is at p, and the table is tb
+pub record Going (ws : List ℕ) (h g n k p : ℕ) (tb : List ℕ) : Type 0 where
+  pub within : k ≤ n
+  pub at : p ≡ h + 1 + 2 * k
+  pub len : length tb ≡ 4096
+  pub names : Names ws h n k tb
+  pub same : nodes_verdict ws g h n (n - k) k ≡ nodes_verdict ws g h n n 0
+
 module _ (ws : List ℕ) (h g n : ℕ) (few : n ≤ 4096) where
-  -- where the loop stands: k nodes are done, the reader is at p, and the table is tb
-  pub record Going : Type 0 where
-    pub k : ℕ
-    pub p : ℕ
-    pub tb : List ℕ
-    pub within : k ≤ n
-    pub at : p ≡ h + 1 + 2 * k
-    pub len : length tb ≡ 4096
-    pub names : Names ws h n k tb
-    pub same : nodes_verdict ws g h n (n - k) k ≡ nodes_verdict ws g h n n 0
-
-  abbrev pub Nearer : Going → Going → Type 0
-  Nearer j i = n - j.k < n - i.k
-
-  pub Nearer-wf : WellFounded Nearer
-  Nearer-wf = InvImage.wf (λ (i : Going). n - i.k) lt-wf_rel.wf
-
-  abbrev pub begin : (at : ℕ) (t : List ℕ) → at ≡ h + 1 → Blank t → Going
+  pub begin : (at : ℕ) (t : List ℕ) → at ≡ h + 1 → Blank t → Going ws h g n 0 at t
   begin at t e blank = record {
-    k = 0;
-    p = at;
-    tb = t;
     within = omega arith;
     at = omega (arith, e);
     len = blank.long;
@@ -57,70 +42,64 @@ module _ (ws : List ℕ) (h g n : ℕ) (few : n ≤ 4096) where
   broken : (r : Rule) (q m : ℕ) (zs : List ℕ) → Broken r q ≡ nodes_verdict ws g h n n 0 → NodesTold ws h g n zs m (Broken r q)
   broken r q m zs e = record { verdict = e; names = λ z. absurd (not_sound r q z); next = λ z. absurd (not_sound r q z) }
 
-  pub finished : (i : Going) → n ≤ i.k → NodesTold ws h g n i.tb i.p Sound
-  finished i l =
-      let e : i.k ≡ n = omega (arith, l, i.within) in
+  pub finished : {k p : ℕ} {tb : List ℕ} (i : Going ws h g n k p tb) → n ≤ k → NodesTold ws h g n tb p Sound
+  finished {k = k} {tb = tb} i l =
+      let e : k ≡ n = omega (arith, l, i.within) in
       record {
-        verdict = sym (nodes-end ws g h n i.k l) ∙ i.same;
-        names = λ z. subst (λ (m : ℕ). Names ws h n m i.tb) e i.names;
+        verdict = sym (nodes-end ws g h n k l) ∙ i.same;
+        names = λ z. subst (λ (m : ℕ). Names ws h n m tb) e i.names;
         next = λ z. omega (arith, i.at, e);
       }
 
   -- node k's read was told v
-  module _ (i : Going) (less : i.k < n) (a : Due) (ea : a ≡ due_at ws i.p) where
-    pub read_is : (v : Verdict) → ReadTold a g v → v ≡ read_verdict ws g (h + 1 + 2 * i.k)
-    read_is v told = told ws i.p ea ∙ ap (read_verdict ws g) i.at
+  module _ {k p : ℕ} {tb : List ℕ} (i : Going ws h g n k p tb) (less : k < n) (a : Due) (ea : a ≡ due_at ws p) where
+    pub read_is : (v : Verdict) → ReadTold a g v → v ≡ read_verdict ws g (h + 1 + 2 * k)
+    read_is v told = told ws p ea ∙ ap (read_verdict ws g) i.at
 
     pub bad-read : (r : Rule) (q m : ℕ) (zs : List ℕ) → ReadTold a g (Broken r q) → NodesTold ws h g n zs m (Broken r q)
-    bad-read r q m zs told = broken r q m zs (sym (read-stops ws g h n i.k less r q (sym (read_is (Broken r q) told))) ∙ i.same)
+    bad-read r q m zs told = broken r q m zs (sym (read-stops ws g h n k less r q (sym (read_is (Broken r q) told))) ∙ i.same)
 
     -- the read is sound: its exits stand at the next place
     module _ (told : ReadTold a g Sound) where
-      pub on : after_at ws i.p ≡ h + 2 + 2 * i.k
+      pub on : after_at ws p ≡ h + 2 + 2 * k
       on =
-          let there : i.p < length ws = (read_told ws g i.p (sym (told ws i.p ea))).there in
-          after-word ws i.p there ∙ omega (arith, i.at)
+          let there : p < length ws = (read_told ws g p (sym (told ws p ea))).there in
+          after-word ws p there ∙ omega (arith, i.at)
 
-      module _ (d : Due) (ed : d ≡ due_at ws (after_at ws i.p)) (v : Verdict) (zs : List ℕ) (et : ExitsTold d n i.k i.tb zs v) where
-        exits-is : v ≡ exits_verdict ws n i.k (h + 2 + 2 * i.k)
-        exits-is = et.verdict ws (after_at ws i.p) ed ∙ ap (exits_verdict ws n i.k) on
+      module _ (d : Due) (ed : d ≡ due_at ws (after_at ws p)) (v : Verdict) (zs : List ℕ) (et : ExitsTold d n k tb zs v) where
+        exits-is : v ≡ exits_verdict ws n k (h + 2 + 2 * k)
+        exits-is = et.verdict ws (after_at ws p) ed ∙ ap (exits_verdict ws n k) on
 
-      pub bad-exits : (d : Due) → d ≡ due_at ws (after_at ws i.p) → (r : Rule) (q m : ℕ) (zs : List ℕ) → ExitsTold d n i.k i.tb zs
+      pub bad-exits : (d : Due) → d ≡ due_at ws (after_at ws p) → (r : Rule) (q m : ℕ) (zs : List ℕ) → ExitsTold d n k tb zs
           (Broken r q) → NodesTold ws h g n zs m (Broken r q)
-      bad-exits d ed r q m zs et = broken r q m zs (sym (exits-stop ws g h n i.k less (sym (read_is Sound told)) r q
+      bad-exits d ed r q m zs et = broken r q m zs (sym (exits-stop ws g h n k less (sym (read_is Sound told)) r q
           (sym (exits-is d ed (Broken r q) zs et))) ∙ i.same)
 
-      module _ (d : Due) (ed : d ≡ due_at ws (after_at ws i.p)) (zs : List ℕ) (et : ExitsTold d n i.k i.tb zs Sound) where
-        pub good : exits_verdict ws n i.k (h + 2 + 2 * i.k) ≡ Sound
+      module _ (d : Due) (ed : d ≡ due_at ws (after_at ws p)) (zs : List ℕ) (et : ExitsTold d n k tb zs Sound) where
+        pub good : exits_verdict ws n k (h + 2 + 2 * k) ≡ Sound
         good = sym (exits-is d ed Sound zs et)
 
-        pub named_by : (m : ℕ) → m ≡ h + 2 + 2 * i.k → d ≡ due_at ws m → (length zs ≡ length i.tb) × Names ws h n (i.k + 1) zs
+        pub named_by : (m : ℕ) → m ≡ h + 2 + 2 * k → d ≡ due_at ws m → (length zs ≡ length tb) × Names ws h n (k + 1) zs
         named_by m em e =
-            let z = et.table ws (h + 2 + 2 * i.k) (e ∙ ap (due_at ws) em) refl in (
-              rw z (names-length ws h i.k i.tb),
-              rw (z, add-one) (names_more ws h n i.k i.tb (omega (arith, few, i.len)) (exits-inside ws n i.k (h + 2 + 2 * i.k) 0 good)
-                  (exits-inside ws n i.k (h + 2 + 2 * i.k) 1 good) i.names),
+            let z = et.table ws (h + 2 + 2 * k) (e ∙ ap (due_at ws) em) refl in (
+              rw z (names-length ws h k tb),
+              rw (z, add-one) (names_more ws h n k tb (omega (arith, few, i.len)) (exits-inside ws n k (h + 2 + 2 * k) 0 good)
+                  (exits-inside ws n k (h + 2 + 2 * k) 1 good) i.names),
             )
 
         abbrev pub two-on : ℕ
-        two-on = after_at ws (after_at ws i.p)
+        two-on = after_at ws (after_at ws p)
 
-        pub there-too : two-on ≡ h + 1 + 2 * (i.k + 1)
+        pub there-too : two-on ≡ h + 1 + 2 * (k + 1)
         there-too =
-            let l : after_at ws i.p < length ws = subst (λ (m : ℕ). m < length ws) (sym on) (exits-sound ws n i.k (h + 2 + 2 * i.k) good).0 in
-            after-word ws (after_at ws i.p) l ∙ omega (arith, on)
+            let l : after_at ws p < length ws = subst (λ (m : ℕ). m < length ws) (sym on) (exits-sound ws n k (h + 2 + 2 * k) good).0 in
+            after-word ws (after_at ws p) l ∙ omega (arith, on)
 
-        abbrev pub onward : Going
+        pub onward : Going ws h g n (k + 1) two-on zs
         onward = record {
-          k = i.k + 1;
-          p = two-on;
-          tb = zs;
           within = omega (arith, less);
           at = there-too;
-          len = (named_by (after_at ws i.p) on ed).0 ∙ i.len;
-          names = (named_by (after_at ws i.p) on ed).1;
-          same = sym (nodes-go ws g h n i.k less (sym (read_is Sound told)) good) ∙ i.same;
+          len = (named_by (after_at ws p) on ed).0 ∙ i.len;
+          names = (named_by (after_at ws p) on ed).1;
+          same = sym (nodes-go ws g h n k less (sym (read_is Sound told)) good) ∙ i.same;
         }
-
-        pub nearer : Nearer onward i
-        nearer = omega (arith, less)
