@@ -1,0 +1,26 @@
+-- `gatewords::put_line` meets its contract. Assumes nothing.
+use mathlib.Core.Path.{◌∙◌}
+use native.Mathlib.Omega.{arith}
+use lib.ListN.{get_or, length-set}
+use Rattle.lists.specs.Tables.{chain}
+use Rattle.word32.specs.Fields.{kind, lead_count, header_word}
+use Rattle.gatelist.specs.Drawn.{lead_nodes, line_words}
+use Rattle.gatewords.proofs.Written.{put_then}
+use Rattle.gatewords.proofs.put_line.Goals as goal
+
+pub put_nodes-requires : goal.put_nodes-requires
+put_nodes-requires c =
+    let p = c.requires in
+    let e = c.get-w.ensures in
+    (rw e p.0, rw e p.1, rw (e, length-set) p.2)
+
+pub shape_of-out : goal.shape_of-out
+shape_of-out c = c.out-1.given ∙ simp length-set
+
+pub returns : goal.returns
+unfolding line_words
+returns c =
+    let a = c.args in
+    let w = get_or a.gates.now a.p 0 in
+    put_then a.out.now a.at (header_word (kind w) (lead_count w)) (chain (lead_nodes a.gates.now a.p w) (lead_count w)) (omega (arith, c.requires.2))
+    (rw (c.header_word.ensures, c.node_count.ensures, c.kind.ensures, c.get-w.ensures) at c.put_nodes.ensures)
