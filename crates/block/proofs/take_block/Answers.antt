@@ -9,22 +9,10 @@ use mathlib.Core.Path.{◌≡◌, refl, sym}
 use native.Mathlib.Omega.{arith}
 use Rattle.block.proofs.take_block.Goals as goal
 
-pub site_table-values-requires : goal.site_table-values-requires
-site_table-values-requires c = search rules
-
-pub walk_room-walk-requires : goal.walk_room-walk-requires
-walk_room-walk-requires c = search rules
-
-pub site_table-caught-requires : goal.site_table-caught-requires
-site_table-caught-requires c = search rules
-
 pub count_vectors-n-requires : goal.count_vectors-n-requires
 count_vectors-n-requires c =
     let shape = c.requires.0.ready.shape in
     omega (arith, c.requires.1.some-input, shape.inputs_in, shape.few-graphs)
-
-pub overflow_add-all : goal.overflow_add-all
-overflow_add-all c = search rules
 
 pub offset_bounds-words-grade_words : goal.offset_bounds-words-grade_words
 offset_bounds-words-grade_words c = omega (arith, c.grade_words.ensures)
@@ -75,9 +63,6 @@ catch_vector-requires c =
       },
     )
 
-pub slice_bounds-take_in-end : goal.slice_bounds-take_in-end
-slice_bounds-take_in-end c = search rules
-
 pub take_in-q-requires : goal.take_in-q-requires
 take_in-q-requires c =
     let shape = c.requires.0.ready.shape in
@@ -113,13 +98,6 @@ loop-i-preserved c =
       took_more tabled.ready.shape (rw c.vector_at-vector.ensures at told) inv.6 took.ensures.0 took.ensures.1
           (counted-as (words_are tabled c.grade_words.ensures) (rw (all-sites tabled.ready.shape) at took.ensures.2)),
     )
-
-pub shape_of-marks : goal.shape_of-marks
-shape_of-marks c = search rules
-
-pub shape_of-tallies : goal.shape_of-tallies
-shape_of-tallies c =
-    search rules
 
 pub returns : goal.returns
 returns c =

@@ -1,9 +1,8 @@
 use mathlib.Core.Path.{◌≡◌, refl, sym}
-use Prim.Native.Nat.{◌-◌, ◌/◌}
+use Prim.Native.Nat.{◌/◌}
 use native.Mathlib.Omega.{arith}
 use lib.ListN.{length, length-set}
 use Rattle.lists.proofs.Tables.{over_none, over-store}
-use Rattle.word32.specs.Bytes.{word_at}
 use Rattle.word32.proofs.words_of.Goals as goal
 
 pub loop-i-init : goal.loop-i-init

@@ -2,11 +2,7 @@
 use Prim.Native.Nat.{ℕ}
 use mathlib.Core.Path.{sym}
 use lib.ListN.{length-replicate, get_or-replicate}
-use Rattle.evaluate.proofs.unknown.Statement.{statement}
-use Rattle.evaluate.proofs.unknown.Tie as tie
+use Rattle.evaluate.proofs.unknown.Goals as goal
 
-returns : tie.Need-returns
+pub returns : goal.returns
 returns c = (sym (length-replicate {A = ℕ} 5120 2), λ i h. get_or-replicate {A = ℕ} 5120 i 2 0 h)
-
-pub unknown-spec : {M : Type 1} → statement M
-unknown-spec = tie.close (tie.spec returns)
