@@ -68,8 +68,8 @@ loop-t-preserved c =
     let end = c.block_end-end.ensures in
     let part = list-part c.requires.0 c.width-w.ensures c.list_length.ensures end (omega arith) _ c.list_part.ensures in (
       end.inside,
-      omega (arith, inv.1, took.auto.1.1.1.1.1.0),
-      omega (arith, inv.2, took.auto.1.1.1.1.1.1.0),
+      omega (arith, inv.1, took.auto.marks),
+      omega (arith, inv.2, took.auto.tallies),
       omega (arith, inv.3, c.list_part.auto.out),
       block-number _ _ _ part end inv.4 took.ensures,
       took.ensures.counted,
