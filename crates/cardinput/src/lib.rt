@@ -8,6 +8,7 @@ ghost use Rattle.cardinput.specs.Reads.{failed};
 ghost use Rattle.cardinput.specs.Reading.{Came};
 
 use reads::{Answer, Source};
+use std::io::Read;
 
 // What reading came to: the bytes that the reads handed out, as many as were wanted or all that there were; or a read failed.
 #[derive(Clone, Copy)]
@@ -17,14 +18,14 @@ pub enum Reading {
 }
 
 // Reads on, until the bytes wanted are there or the input ends. Those that were there stay.
-pub fn read_on(input: &mut [u8], source: Source, wanted: usize) -> Reading
+pub fn read_on<R: Read>(reader: &mut R, input: &mut [u8], source: Source, wanted: usize) -> Reading
     requires { (source.handed ≤ wanted) × (wanted ≤ length input.old) × (failed source.last ≡ false) }
     ensures came { Came wanted result }
     ensures input_unchanged { take source.handed input.new ≡ take source.handed input.old }
 {
     let mut so_far = source;
     while reads::handed(so_far) < wanted {
-        so_far = reads::read_more(so_far, input, wanted);
+        so_far = reads::read_more(reader, so_far, input, wanted);
         match reads::last(so_far) {
             Answer::Error => return Reading::Failed(so_far),
             Answer::End => return Reading::Read(so_far),
