@@ -3,9 +3,10 @@
 
 pub mod reads;
 
-ghost use Rattle.std.specs.Prelude.{◌≡◌, false, ◌≤◌, length, take};
+ghost use Rattle.std.specs.Prelude.{◌≡◌, false, ◌≤◌, ℕ, List, length, take, Option};
 ghost use Rattle.cardinput.specs.Reads.{failed};
 ghost use Rattle.cardinput.specs.Reading.{Came};
+ghost use Rattle.cardinput.specs.Known.{FrontOf, told_in};
 
 use reads::{Answer, Source};
 use std::io::Read;
@@ -22,6 +23,8 @@ pub fn read_on<R: Read>(reader: &mut R, input: &mut [u8], source: Source, wanted
     requires { (source.handed ≤ wanted) × (wanted ≤ length input.old) × (failed source.last ≡ false) }
     ensures came { Came wanted result }
     ensures input_unchanged { take source.handed input.new ≡ take source.handed input.old }
+    ensures front { (known : Option (List ℕ)) → FrontOf known (R.remaining reader.old) source input.old
+        → FrontOf known (R.remaining reader.new) (told_in result) input.new }
 {
     let mut so_far = source;
     while reads::handed(so_far) < wanted {

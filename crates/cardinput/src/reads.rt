@@ -1,8 +1,9 @@
 // Reads of an input, one after the other. What they told is kept in a `Source`, and only this module can make one, since its
 // fields are private. So no other function can make up an end of the input, or a byte: it has what the reads told.
-ghost use Rattle.std.specs.Prelude.{◌≡◌, ◌+◌, ◌<◌, ◌≤◌, length, take};
+ghost use Rattle.std.specs.Prelude.{◌≡◌, ◌+◌, ◌<◌, ◌≤◌, ℕ, List, length, take, Option};
 ghost use Rattle.cardinput.specs.declared.reads.Answer.TheVariants.{Bytes};
 ghost use Rattle.cardinput.specs.Reads.{Moved, taken, told_by, Grown};
+ghost use Rattle.cardinput.specs.Known.{Gave, FrontOf};
 
 use std::io::{ErrorKind, Read};
 
@@ -70,7 +71,8 @@ fn told(handed: usize, got: isize) -> Source
 
 // One read, and its number: so many bytes, or -1 where it failed. A read that a signal interrupts is tried again, a hundred times in all.
 fn read_some<R: Read>(reader: &mut R, room: &mut [u8]) -> isize
-    ensures { Moved (length room.old) result }
+    ensures moved { Moved (length room.old) result }
+    ensures gave { Gave (R.remaining reader.old) (R.remaining reader.new) result room.new }
 {
     let mut tries: usize = 0;
     while tries < 100 {
@@ -93,6 +95,8 @@ pub fn read_more<R: Read>(reader: &mut R, source: Source, input: &mut [u8], want
     requires { (source.handed < wanted) × (wanted ≤ length input.old) }
     ensures handed_le_wanted { (result.handed ≤ wanted) × Grown source.handed result.handed result.last }
     ensures input_unchanged { take source.handed input.new ≡ take source.handed input.old }
+    ensures front { (known : Option (List ℕ)) → FrontOf known (R.remaining reader.old) source input.old
+        → FrontOf known (R.remaining reader.new) result input.new }
 {
     let at = source.handed;
     let got = read_some(reader, &mut input[at..wanted]);
