@@ -31,15 +31,19 @@ front-read n k j xs ys h l =
     sym (take-take (n + j) (n + length ys) (put_mid n k xs ys) less) ∙ ap (take (n + j)) whole
     ∙ ap (λ m. take (m + j) (take n xs ++ ys)) (sym front) ∙ take-append-add (take n xs) ys j
 
-pub read-front : (s : Source) (k : ℕ) (xs ys : List ℕ) (z : ℤ) (left rest : Option (List ℕ)) → s.handed ≤ length xs → 0 < length ys
-    → Moved (length ys) z → Gave left rest z ys → (known : Option (List ℕ)) → FrontOf known left s xs
-    → FrontOf known rest (told_by s.handed z) (put_mid s.handed k xs ys)
-read-front s k xs ys (pos zero) left rest h room l gave known front = (
-  rw (take-put_mid_below s.handed k xs ys s.handed (omega arith) h)
-      (subst (Consumes known rest) (append-nil (take s.handed xs)) (taken-twice known left rest (take s.handed xs) [] front.0 gave.0)),
-  λ e. gave.1 refl room,
-)
-read-front s k xs ys (pos (suc j)) left rest h room l gave known front =
-    (rw (front-read s.handed k (suc j) xs ys h l) (taken-twice known left rest (take s.handed xs) (take (suc j) ys) front.0 gave.0), λ e. cc)
-read-front s k xs ys (negsuc j) left rest h room l gave known front =
-    (rw (take-put_mid_below s.handed k xs ys s.handed (omega arith) h) (taken-kept known left rest (take s.handed xs) front.0 gave), λ e. cc)
+pub read-front : (s : Source) (k : ℕ) (xs ys : List ℕ) (z : ℤ) (left rest : Option (List ℕ)) → s.handed + length ys ≤ length xs
+    → length (put_mid s.handed k xs ys) ≡ length xs → 0 < length ys → Moved (length ys) z → Gave left rest z ys → (known : Option (List ℕ))
+    → FrontOf known left s xs → FrontOf known rest (told_by s.handed z) (put_mid s.handed k xs ys)
+read-front s k xs ys (pos zero) left rest h same room l gave known front =
+    let within : s.handed ≤ length xs = omega arith in (
+      omega (arith, same),
+      rw (take-put_mid_below s.handed k xs ys s.handed (omega arith) within)
+          (subst (Consumes known rest) (append-nil (take s.handed xs)) (taken-twice known left rest (take s.handed xs) [] front.1 gave.0)),
+      λ e. gave.1 refl room,
+    )
+read-front s k xs ys (pos (suc j)) left rest h same room l gave known front =
+    let within : s.handed ≤ length xs = omega arith in
+    (omega (arith, same, l), rw (front-read s.handed k (suc j) xs ys within l) (taken-twice known left rest (take s.handed xs) (take (suc j) ys) front.1 gave.0), λ e. cc)
+read-front s k xs ys (negsuc j) left rest h same room l gave known front =
+    let within : s.handed ≤ length xs = omega arith in
+    (omega (arith, same), rw (take-put_mid_below s.handed k xs ys s.handed (omega arith) within) (taken-kept known left rest (take s.handed xs) front.1 gave), λ e. cc)

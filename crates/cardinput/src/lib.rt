@@ -1,4 +1,4 @@
-// Standard input, read on until the bytes wanted are there or it ends. A read that fails is no end of the input.
+// An input, read on until the bytes wanted are there or it ends. A read that fails is no end of the input.
 #![tactic(auto)]
 
 pub mod reads;
