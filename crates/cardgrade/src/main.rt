@@ -2,21 +2,36 @@
 // What is printed for the bytes read is the contract of report::report. How many bytes decide is that of report::wanted: the
 // text of so many is the text of all (the law `text-front` of report's proofs), so an input without end has its line too.
 // Fewer are graded only where a read answered that the input ends: so the text is that of the whole input, given what is
-// trusted of the reads (the law `whole-input`, proofs/Whole.antt). A read that fails is no end of the input: then nothing is
-// printed but a message on standard error.
+// trusted of the reads (the law `whole-input`, proofs/Whole.antt). For a reader and a writer whose bytes are known that is
+// the contract of `grade`, and nothing is trusted. A read that fails is no end of the input: then nothing is printed but a
+// message on standard error.
 #![tactic(auto)]
 
-ghost use Rattle.std.specs.Prelude.{◌≡◌, ◌≤◌, length};
-ghost use Rattle.report.specs.Report.{max_input};
+ghost use Rattle.std.specs.Prelude.{◌≡◌, ◌≤◌, length, take, OnOk, IfSome};
+ghost use Rattle.std.specs.Io.KnownBytes.{Appends};
+ghost use Rattle.report.specs.Report.{max_input, text_of};
 ghost use Rattle.textlines.specs.Text.{max_text};
 ghost use Rattle.cardinput.specs.declared.Reading.TheVariants.{Read};
-ghost use Rattle.cardgrade.specs.Whole.{CameAll};
+ghost use Rattle.cardinput.specs.Known.{told_in};
+ghost use Rattle.cardgrade.specs.Whole.{CameAll, FirstOf};
+
+mod noting;
 
 use cardinput::reads::Source;
 use cardinput::{Reading, reads};
-use libc::STDOUT_FILENO;
+use noting::Noting;
 use report::MAX_INPUT;
+use std::io;
+use std::io::{Eprint, Read, Write};
+use std::process::ExitCode;
 use textlines::MAX_TEXT;
+
+// Why nothing, or not all, was printed.
+#[derive(Drop)]
+enum Failure {
+    Unread,
+    Unwritten(io::Error),
+}
 
 // Room for all the bytes that can decide, and for the longest text.
 fn input_room() -> [u8; MAX_INPUT]
@@ -32,38 +47,59 @@ fn text_room() -> [u8; MAX_TEXT]
 }
 
 // Reads the word count, and then the bytes that it makes wanted.
-fn read_input(input: &mut [u8]) -> Reading
+fn read_input<R: Read>(reader: &mut R, input: &mut [u8]) -> Reading
     requires { max_input ≤ length input.old }
-    ensures { CameAll input.new result }
+    ensures came { CameAll input.new result }
+    ensures first { IfSome (R.remaining reader.old) (λ w. FirstOf w input.new (told_in result)) }
 {
-    match cardinput::read_on(input, reads::start(), 4) {
+    match cardinput::read_on(reader, input, reads::start(), 4) {
         Reading::Failed(source) => Reading::Failed(source),
         Reading::Read(source) => {
             if reads::handed(source) < 4 {
                 return Reading::Read(source);
             }
             let wanted = report::wanted(&input[..4]);
-            cardinput::read_on(input, source, wanted)
+            cardinput::read_on(reader, input, source, wanted)
         }
     }
 }
 
 // Prints the text for the bytes read. It asks that they are all, and that no read failed.
-fn print_report(input: &[u8], source: Source)
+fn print_report<W: Write>(writer: &mut W, input: &[u8], source: Source) -> io::Result<()>
     requires { CameAll input.now (Read source) × (max_input ≤ length input.now) }
+    ensures { OnOk result (Appends (W.contents writer.old) (W.contents writer.new) (text_of (take source.handed input.now))) }
 {
     let n = reads::handed(source);
     let mut text = text_room();
     let long = report::report(&input[..n], &mut text);
-    if !io::write_all(STDOUT_FILENO, &text[..long]) {
-        os::fail(b"cardgrade: standard output did not take the whole text");
+    writer.write_all(&text[..long])
+}
+
+// Grades all that a reader has: the text is that of the whole input.
+fn grade<R: Read, W: Write>(reader: &mut R, writer: &mut W) -> Result<(), Failure>
+    ensures { OnOk result (IfSome (R.remaining reader.old) (λ w. Appends (W.contents writer.old) (W.contents writer.new) (text_of w))) }
+{
+    let mut input = input_room();
+    match read_input(reader, &mut input) {
+        Reading::Failed(_) => Err(Failure::Unread),
+        Reading::Read(source) => match print_report(writer, &input, source) {
+            Ok(()) => Ok(()),
+            Err(e) => Err(Failure::Unwritten(e)),
+        },
     }
 }
 
-fn main() {
-    let mut input = input_room();
-    match read_input(&mut input) {
-        Reading::Failed(_) => os::fail(b"cardgrade: cannot read standard input"),
-        Reading::Read(source) => print_report(&input, source),
+// Says what failed, and why. Where standard error does not take it there is nobody to tell.
+fn fail<P: Eprint>(rt: &P, what: &str, why: io::Error) -> ExitCode {
+    let _ = eprintln!(rt; "cardgrade: {what}: {why}");
+    ExitCode::FAILURE
+}
+
+fn main(rt: HostRuntime) -> ExitCode {
+    let mut reader = Noting::new(rt.stdin());
+    match grade(&mut reader, &mut rt.stdout()) {
+        Ok(()) => ExitCode::SUCCESS,
+        Err(Failure::Unread) => fail(&rt, "cannot read standard input", reader.error()),
+        Err(Failure::Unwritten(e)) => fail(&rt, "standard output did not take the whole text", e),
     }
 }

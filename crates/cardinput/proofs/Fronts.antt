@@ -1,9 +1,6 @@
 -- Fronts of lists. Assumes nothing.
-use Prim.Native.Nat.{ℕ, ◌≤◌}
-use mathlib.Core.Path.{◌≡◌, sym, ap, ◌∙◌}
-use mathlib.Core.List.{List}
-use lib.ListN.{take}
-use lib.Seq.{take-take}
+use Rattle.std.proofs.Common.{◌≡◌, ℕ, ◌≤◌, List, take, sym, ap, ◌∙◌}
+use Rattle.std.proofs.lemmas.List.{take-take}
 
 -- where two lists have equal fronts, shorter ones are equal too
 pub shorter-fronts : (m n : ℕ) (xs ys : List ℕ) → m ≤ n → take n xs ≡ take n ys → take m xs ≡ take m ys

@@ -1,2 +1,3 @@
 -- The laws, beside the proofs of functions.
 pub mod Fronts
+mod Known

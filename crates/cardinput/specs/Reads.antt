@@ -1,8 +1,13 @@
--- What reads of standard input tell. The library's contract of a read speaks of its number alone, and so do these. Assumes nothing.
+-- What reads of an input tell. These speak of a read's number alone. Assumes nothing.
 use Rattle.std.specs.Prelude.{ℕ, zero, suc, ◌+◌, ◌<◌, ◌≤◌, ◌≡◌, Bool, true, false, ℤ, pos, negsuc}
 use Rattle.cardinput.specs.declared.reads.Answer.{Answer}
 use Rattle.cardinput.specs.declared.reads.Answer.TheVariants.{Bytes, End, Error}
 use Rattle.cardinput.specs.declared.reads.Source.{Source}
+
+-- WHAT NUMBER A READ MAY ANSWER that is handed room for n bytes: -1, or how many bytes it moved, at most n
+abbrev pub Moved : ℕ → ℤ → Type 0
+Moved n (pos k) = k ≤ n
+Moved n (negsuc k) = k ≡ 0
 
 -- how many bytes a read's number says that it handed out
 abbrev pub taken : ℤ → ℕ

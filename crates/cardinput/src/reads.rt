@@ -1,11 +1,11 @@
-// Reads of standard input, one after the other. What they told is kept in a `Source`, and only this module can make one, since its
+// Reads of an input, one after the other. What they told is kept in a `Source`, and only this module can make one, since its
 // fields are private. So no other function can make up an end of the input, or a byte: it has what the reads told.
-ghost use Rattle.std.specs.Prelude.{◌≡◌, ◌+◌, ◌<◌, ◌≤◌, length, take};
-ghost use Rattle.libc.specs.Io.{Moved};
+ghost use Rattle.std.specs.Prelude.{◌≡◌, ◌+◌, ◌<◌, ◌≤◌, ℕ, List, length, take, Option};
 ghost use Rattle.cardinput.specs.declared.reads.Answer.TheVariants.{Bytes};
-ghost use Rattle.cardinput.specs.Reads.{taken, told_by, Grown};
+ghost use Rattle.cardinput.specs.Reads.{Moved, taken, told_by, Grown};
+ghost use Rattle.cardinput.specs.Known.{Gave, FrontOf};
 
-use libc::STDIN_FILENO;
+use std::io::{ErrorKind, Read};
 
 // What one read answered: so many bytes, one or more; none, at the end of the input; or that it failed.
 #[derive(Clone, Copy)]
@@ -69,18 +69,20 @@ fn told(handed: usize, got: isize) -> Source
     }
 }
 
-// One read. A read that a signal interrupts is tried again, a hundred times in all.
-fn read_some(room: &mut [u8]) -> isize
-    ensures { Moved (length room.old) result }
+// One read, and its number: so many bytes, or -1 where it failed. A read that a signal interrupts is tried again, a hundred times in all.
+fn read_some<R: Read>(reader: &mut R, room: &mut [u8]) -> isize
+    ensures moved { Moved (length room.old) result }
+    ensures gave { Gave (R.remaining reader.old) (R.remaining reader.new) result room.new }
 {
     let mut tries: usize = 0;
     while tries < 100 {
-        let got = libc::read(STDIN_FILENO, room);
-        if 0 <= got {
-            return got;
-        }
-        if os::errno() != libc::EINTR {
-            return -1;
+        match reader.read(room) {
+            Ok(n) => return n as isize,
+            Err(e) => {
+                if e.kind() != ErrorKind::Interrupted {
+                    return -1;
+                }
+            }
         }
         tries += 1;
     }
@@ -89,12 +91,14 @@ fn read_some(room: &mut [u8]) -> isize
 
 // One read more, up to the bytes wanted, right behind those that the reads have handed out, which stay as they are. At least one byte
 // is asked for: a read of none answers 0 where the input has not ended.
-pub fn read_more(source: Source, input: &mut [u8], wanted: usize) -> Source
+pub fn read_more<R: Read>(reader: &mut R, source: Source, input: &mut [u8], wanted: usize) -> Source
     requires { (source.handed < wanted) × (wanted ≤ length input.old) }
     ensures handed_le_wanted { (result.handed ≤ wanted) × Grown source.handed result.handed result.last }
     ensures input_unchanged { take source.handed input.new ≡ take source.handed input.old }
+    ensures front { (known : Option (List ℕ)) → FrontOf known (R.remaining reader.old) source input.old
+        → FrontOf known (R.remaining reader.new) result input.new }
 {
     let at = source.handed;
-    let got = read_some(&mut input[at..wanted]);
+    let got = read_some(reader, &mut input[at..wanted]);
     told(at, got)
 }

@@ -1,0 +1,20 @@
+-- What the loop of `cardinput::read_on` keeps: the bytes handed out are within those wanted, those that were there stay, and no read failed.
+-- Assumes nothing.
+use Rattle.std.proofs.Common.{◌≡◌, false, ◌≤◌, ℕ, List, length, take, ◌-◌}
+use Rattle.std.specs.Prelude.{Option}
+use Rattle.cardinput.specs.Reads.{failed}
+use Rattle.cardinput.specs.Known.{FrontOf}
+use Rattle.cardinput.proofs.read_on.Given as goal
+
+abbrev pub invariant-loop-reader : goal.invariant-loop-reader
+invariant-loop-reader g l = record {
+  grown : l.fn.source.handed ≤ l.so_far.handed;
+  within : l.so_far.handed ≤ l.wanted;
+  same_length : length l.input ≡ length l.fn.input;
+  stay : take l.fn.source.handed l.input ≡ take l.fn.source.handed l.fn.input;
+  front : (known : Option (List ℕ)) → FrontOf known (g.R.Read.remaining l.fn.reader) l.fn.source l.fn.input → FrontOf known (g.R.Read.remaining l.reader) l.so_far l.input;
+  not_failed : failed l.so_far.last ≡ false;
+}
+
+abbrev pub decreases-loop-reader : goal.decreases-loop-reader
+decreases-loop-reader g l = l.wanted - l.so_far.handed
