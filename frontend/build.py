@@ -59,6 +59,11 @@ def program(root: str = ROOT) -> str:
     return _fresh(root, PROGRAM)
 
 
+def archive(root: str = ROOT) -> str:
+    """The path of the archive; that of the checkout, whatever is named."""
+    return _fresh(root, ARCHIVE)
+
+
 def shared_library(root: str = ROOT) -> str:
     """The path of the shared library."""
     named = os.environ.get("CARDHOST_LIB", "")

@@ -230,10 +230,9 @@ def library_of(root: str, crate: str) -> str:
     return os.path.join(root, "crates", crate, "out", "rlib", f"{crate}.rlib")
 
 
-def is_of_sources(path: str, root: str, crate: str) -> bool:
-    """Whether a file that the toolchain built is of the sources as they are: none has changed since the first library below it.
+def libraries_since(root: str, crate: str) -> list[int]:
+    """When the libraries below a crate were built, if all are and no source has changed since the first of them; else nothing.
 
-    So what was built from nothing is found to be fresh. What was built piece by piece may be fresh too, but rt alone can tell.
     A change is told by the time that no tool sets back, that of the last change of a file's entry: a source that was unpacked
     or copied with an old date counts as new. A folder counts too, since a file may have gone from it, and so does rt.
     """
@@ -245,9 +244,18 @@ def is_of_sources(path: str, root: str, crate: str) -> bool:
     try:
         made = [os.stat(library_of(root, name)).st_ctime_ns for name in crates if name != crate]
         changes = [os.stat(each).st_ctime_ns for each in paths if os.path.exists(each)]
-        return max(changes) < min(made) and max(made) <= os.stat(path).st_mtime_ns
+        return made if max(changes) < min(made) else []
     except (FileNotFoundError, NotADirectoryError, ValueError):
-        return False
+        return []
+
+
+def is_of_sources(path: str, root: str, crate: str) -> bool:
+    """Whether a file that the toolchain built is of the sources as they are: of libraries that are, and not older than these.
+
+    So what was built from nothing is found to be fresh. What was built piece by piece may be fresh too, but rt alone can tell.
+    """
+    made = libraries_since(root, crate)
+    return bool(made) and max(made) <= os.stat(path).st_mtime_ns
 
 
 def is_whole_program(path: str, root: str, crate: str) -> bool:
