@@ -2,8 +2,8 @@
  * words and further words: the gate list, and vectors for it. It prints the card and those vectors as a text
  * of words, with the line or lead that each graph and node is; ./cardgrade calls it.
  *
- *   rt staticlib cardhost
- *   gcc -O2 examples/gates.c target/staticlib/libcardhost.a -o gates
+ *   (cd crates/cardhost && rt lib)
+ *   gcc -O2 examples/gates.c crates/cardhost/out/libcardhost.a -o gates
  *   ./cardgrade --bytes examples/c17.gates >list
  *   ./gates list >c17.words
  *

@@ -2,8 +2,8 @@
  * words to the end, calls the engine, and prints what cardgrade prints, byte for byte and for every
  * input (tests/example-host compares).
  *
- *   rt staticlib cardhost
- *   gcc -O2 examples/host.c target/staticlib/libcardhost.a -o host
+ *   (cd crates/cardhost && rt lib)
+ *   gcc -O2 examples/host.c crates/cardhost/out/libcardhost.a -o host
  *   ./cardgrade --bytes examples/s.words | ./host
  *
  * Exit status: 0 after a grading; 1 after refused, short or long; 2 where reading or writing fails.

@@ -3,8 +3,8 @@
  * wires are vectors for the joined card. It prints the joined card and those vectors as a text of words,
  * with the graph of A or B that each graph is; ./cardgrade calls it.
  *
- *   rt staticlib cardhost
- *   gcc -O2 examples/join.c target/staticlib/libcardhost.a -o join
+ *   (cd crates/cardhost && rt lib)
+ *   gcc -O2 examples/join.c crates/cardhost/out/libcardhost.a -o join
  *   ./cardgrade --bytes examples/fulladder.words >adder
  *   ./cardgrade --bytes examples/ripple.wires >wires
  *   ./join adder adder wires >two-bits.words

@@ -1,13 +1,16 @@
 """The built files, fresh: the program, and the shared library that is made of the archive.
 
-At each run the stamp beside a built file (frontend/stamp.py) tells whether it is made of what is there now. One that is not is
-built again, by the toolchain, which proves first what has changed; where rt is not on the PATH, that is an error. A build has
-target/ to itself by a lock, which the others wait for (frontend/lock.py); then they look at the stamp again.
+At each run the stamp of a built file (frontend/stamp.py) tells whether it is made of what is there now. One that is not is built
+again, by the toolchain, which proves first what has changed; where rt is not on the PATH, that is an error. The program is built by
+`rt run` in its crate's folder, which runs it too, on the crate's file stdin, and it is to print what the file stdout has; the
+archive is built by `rt lib`. What they build stands in the crate's out/. The shared library, the stamps, the log and the lock are
+in target/, which no tool but this one and the tests write. A build has all of it to itself by the lock, which the others wait for
+(frontend/lock.py); then they look at the stamp again.
 
 A file whose stamp is not its own, or that has none, may come from the toolchain alone, as after .ci/run. It is taken over, and gets
-its stamp, if no source has changed since the toolchain left its first mark, and if it is known to be whole: the program by rt's
-mark, which it leaves once that is proved and has run, the archive by its members, which must all be there. Else rt is asked, which
-proves what has changed, and by its marks knows what has not.
+its stamp, if no source has changed since the toolchain built the first library below it, and if it is known to be whole: the
+program by what rt leaves beside it once it is linked or has run, the archive by its members, which must all be there. Else rt is
+asked, which proves what has changed, and knows what has not.
 
 CARDGRADE=program names a finished program, CARDHOST_LIB=archive a finished archive, or a shared library that was made of one;
 these are used as they are.
@@ -31,7 +34,7 @@ GCC = "gcc, which links it,"
 
 
 class Product:
-    """A file that is built of a crate, by a command of the toolchain or, where there is none, by linking."""
+    """A file that is built of a crate, by a command of the toolchain in the crate's folder or, where there is none, by linking."""
 
     def __init__(self, noun: str, crate: str, command: str, file: str, hint: str) -> None:
         self.noun = noun
@@ -41,9 +44,9 @@ class Product:
         self.hint = f"{noun} is built there, and {hint} names a finished one"
 
 
-PROGRAM = Product("the program", "cardgrade", "check", "target/bin/cardgrade", "CARDGRADE=program")
-ARCHIVE = Product("the archive", "cardhost", "staticlib", "target/staticlib/libcardhost.a", "CARDHOST_LIB=archive")
-LIBRARY = Product("the library", "cardhost", "", "target/staticlib/libcardhost.so", "CARDHOST_LIB=archive")
+PROGRAM = Product("the program", "cardgrade", "run", "crates/cardgrade/out/cardgrade", "CARDGRADE=program")
+ARCHIVE = Product("the archive", "cardhost", "lib", "crates/cardhost/out/libcardhost.a", "CARDHOST_LIB=archive")
+LIBRARY = Product("the library", "cardhost", "", "target/libcardhost.so", "CARDHOST_LIB=archive")
 
 
 def program(root: str = ROOT) -> str:
@@ -54,6 +57,11 @@ def program(root: str = ROOT) -> str:
             raise Failed(f"{named}: no program that can be run")
         return os.path.join(".", named)
     return _fresh(root, PROGRAM)
+
+
+def archive(root: str = ROOT) -> str:
+    """The path of the archive; that of the checkout, whatever is named."""
+    return _fresh(root, ARCHIVE)
 
 
 def shared_library(root: str = ROOT) -> str:
@@ -77,13 +85,13 @@ def _state(root: str, product: Product) -> tuple[str, dict[str, str]]:
     """What the file lacks, in words that go on from its noun (none where it is fresh), and what it is to be made of."""
     path = os.path.join(root, product.file)
     made = stamp.made_of(root, product.crate, linked=product is LIBRARY)
-    lack = stamp.what_lacks(path, made)
+    lack = stamp.what_lacks(path, root, made)
     if not lack and product is PROGRAM and not os.access(path, os.X_OK):
         lack = "cannot be run"
     elif lack == stamp.NOT_TOLD and _is_whole(root, product) and stamp.is_of_sources(path, root, product.crate):
         lack = ""
         try:
-            stamp.write_stamp(path, made)
+            stamp.write_stamp(path, root, made)
         except Failed:
             pass  # a folder that cannot be written: the next run looks again
     return lack, made
@@ -92,12 +100,11 @@ def _state(root: str, product: Product) -> tuple[str, dict[str, str]]:
 def _is_whole(root: str, product: Product) -> bool:
     """Whether a file that the toolchain has built is known to be whole."""
     path = os.path.join(root, product.file)
+    if product is PROGRAM:
+        return os.access(path, os.X_OK) and stamp.is_whole_program(path, root, product.crate)
     try:
-        if product is ARCHIVE:
-            return stamp.is_whole_archive(stamp.read_file(path))
-        mark = os.stat(stamp.mark_of(root, product.crate))
-        return product is PROGRAM and os.access(path, os.X_OK) and mark.st_mtime_ns >= os.stat(path).st_mtime_ns
-    except (OSError, Failed):
+        return product is ARCHIVE and stamp.is_whole_archive(stamp.read_file(path))
+    except Failed:
         return False
 
 
@@ -121,13 +128,16 @@ class Work:
         self.held = held
         self.log = os.path.join(root, "target", "build.log")
 
-    def run(self, words: list[str], progress: watch.Progress) -> int:
-        """Runs a builder; its status. The log has what it said, and is kept."""
+    def run(self, words: list[str], progress: watch.Progress, folder: str = "", given: str = "") -> int:
+        """Runs a builder, in a folder of the checkout and on a file; its status. The log has what it said, and is kept."""
         from frontend import watch
+        line = f"$ {'cd ' + folder + ' && ' if folder else ''}{' '.join(words)}{' <' + given if given else ''}\n"
+        inside = os.path.join(self.root, folder)
+        given = os.path.join(inside, given) if given else os.devnull
         try:
             with open(self.log, "wb", buffering=0) as log:
-                log.write(os.fsencode(" ".join(["$", *words]) + "\n"))
-                return watch.run(words, self.root, log, progress, self.signals, [self.held])
+                log.write(os.fsencode(line))
+                return watch.run(words, inside, given, log, progress, self.signals, [self.held])
         except OSError as error:
             raise Failed(f"{self.log} cannot be written ({error.strerror})") from None
 
@@ -140,7 +150,7 @@ def _build(root: str, product: Product, lack: str) -> None:
         _tool(product, lack, "gcc", GCC)
     else:
         _tool(product, lack, "rt", RT)
-    lock.check_rights(target, product.hint)
+    lock.check_rights(root, [name for name, _ in stamp.crates_of(root, product.crate)] if product is not LIBRARY else [], product.hint)
     with watch.Signals() as signals:
         held = lock.take(target, signals)
         try:
@@ -160,7 +170,7 @@ def _make(work: Work, product: Product) -> None:
             _link(work, lack)
         else:
             _prove(work, product, lack)
-        stamp.write_stamp(os.path.join(work.root, product.file), made)
+        stamp.write_stamp(os.path.join(work.root, product.file), work.root, made)
     raise Failed(f"the sources of {product.noun} change while it is built")
 
 
@@ -169,23 +179,35 @@ def _prove(work: Work, product: Product, lack: str) -> None:
     from frontend import lock, watch
     from frontend.files import tell
     crates = [name for name, _ in stamp.crates_of(work.root, product.crate)]
-    words = [_tool(product, lack, "rt", RT), product.command, product.crate]
-    lock.check_room(os.path.join(work.root, "target"), crates)
+    folder = os.path.join("crates", product.crate)
+    words = [_tool(product, lack, "rt", RT), product.command]
+    lock.check_rights(work.root, crates, product.hint)
+    lock.check_room(work.root, crates)
     if lack == stamp.NOT_BUILT:
         tell(f"cardgrade: {product.noun} {lack}: first its {len(crates)} crates are proved, in some minutes")
     else:
         tell(f"cardgrade: {product.noun} {lack}: it is built again, and what has changed of its {len(crates)} crates is proved first")
     path = os.path.join(work.root, product.file)
     if not _is_whole(work.root, product):
-        # By its mark rt would take it for built: it does not look whether the file is whole, or there.
-        _remove(path)
-        _remove(stamp.mark_of(work.root, product.crate))
+        _remove(path)  # rt would take a program for built that cannot be run
     progress = watch.Progress(crates)
-    status = work.run(words, progress)
-    if status != 0 or not os.path.isfile(path):
-        _fail(work, progress.failure() if status != 0 else f"rt has left no {product.file}")
+    given = "stdin" if product is PROGRAM and os.path.isfile(os.path.join(work.root, folder, "stdin")) else ""
+    status = work.run(words, progress, folder, given)
+    if status == 0 and not os.path.isfile(path):
+        _fail(work, f"rt has left no {product.file}")
+    if status == 0 and progress.has_run and progress.printed != _wanted(os.path.join(work.root, folder, "stdout")):
+        progress.error, status = f"it does not print what {folder}/stdout has", 1
+    if status != 0:
+        if progress.has_run:
+            _remove(path)
+        _fail(work, progress.failure())
     progress.end()
     tell(f"cardgrade: {product.noun} is built, in {progress.seconds()} s")
+
+
+def _wanted(path: str) -> str:
+    """What the program is to print on its crate's file stdin: nothing where there is no file stdout."""
+    return stamp.read_file(path).decode("utf-8", "replace") if os.path.isfile(path) else ""
 
 
 def _link(work: Work, lack: str) -> None:

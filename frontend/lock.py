@@ -1,4 +1,4 @@
-"""The folder target/ as a place to build in: whether it can be written, whether there is room, and whose turn it is."""
+"""The checkout as a place to build in: whether it can be written, whether there is room, and whose turn it is."""
 from __future__ import annotations
 
 import fcntl
@@ -11,30 +11,31 @@ from frontend.files import tell
 
 MEGABYTE = 1_000_000
 ROOM = 50 * MEGABYTE  # what any build needs
-ROOM_OF_CRATE = 14 * MEGABYTE  # what the files of a crate that is not proved yet take, twice over
+ROOM_OF_CRATE = 45 * MEGABYTE  # what the files of a crate that is not proved yet take, twice over
 
 
-def check_rights(target: str, hint: str) -> None:
-    """What is built goes to target/ and to the toolchain's folders there."""
+def check_rights(root: str, crates: list[str], hint: str) -> None:
+    """What is built goes to target/ and to the toolchain's folders in the crates."""
+    target = os.path.join(root, "target")
     try:
         os.makedirs(target, exist_ok=True)
     except OSError as error:
         why = "it is no folder" if os.path.lexists(target) else error.strerror
         raise Failed(f"{target} cannot be written ({why}); {hint}") from None
-    for name in ("", "bin", "log", "obj", "rlib", "stamp", "staticlib"):
-        folder = os.path.join(target, name).rstrip("/")
+    parts = [os.path.join(root, "crates", name, part) for name in crates for part in ("", "out", "out/incremental", "out/rlib")]
+    for folder in (target, *parts):
         if os.path.exists(folder) and not os.access(folder, os.W_OK | os.X_OK):
-            raise Failed(f"{folder} cannot be written; {hint}")
+            raise Failed(f"{folder.rstrip('/')} cannot be written; {hint}")
 
 
-def check_room(target: str, crates: list[str]) -> None:
+def check_room(root: str, crates: list[str]) -> None:
     """There must be room for the crates that are not proved yet."""
-    new = [name for name in crates if not os.path.exists(os.path.join(target, "stamp", name))]
+    new = [name for name in crates if not os.path.exists(os.path.join(root, "crates", name, "out", "incremental"))]
     needed = ROOM + ROOM_OF_CRATE * len(new)
-    there = os.statvfs(target)
+    there = os.statvfs(root)
     free = there.f_bavail * there.f_frsize
     if free < needed:
-        raise Failed(f"{target} has room for {free // MEGABYTE} MB, and building takes up to {needed // MEGABYTE} MB")
+        raise Failed(f"{root} has room for {free // MEGABYTE} MB, and building takes up to {needed // MEGABYTE} MB")
 
 
 def take(target: str, signals: watch.Signals) -> int:
@@ -57,7 +58,7 @@ def take(target: str, signals: watch.Signals) -> int:
 
 
 def _try(path: str) -> int:
-    """The lock's file, or -1 where another has it. `rt ci` removes all of target/: a lock that is no longer there is none."""
+    """The lock's file, or -1 where another has it. Somebody may remove target/: a lock that is no longer there is none."""
     try:
         os.makedirs(os.path.dirname(path), exist_ok=True)
         held = os.open(path, os.O_RDWR | os.O_CREAT, 0o666)

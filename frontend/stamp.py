@@ -1,6 +1,6 @@
 """What a built file was made of, so that each run can tell whether it still is.
 
-Beside a built file FILE stands its stamp, FILE.stamp, a text with a line for each thing that decides the file:
+For each built file FILE there is a stamp, target/FILE.stamp, a text with a line for each thing that decides the file:
 
     file       its own bytes, so that a file that was cut short, or that something else wrote, is not taken for it
     sources    the crates that it is built of: their lines of crates.txt, their src/*.rt and their specs/*.antt
@@ -78,30 +78,32 @@ def read_file(path: str) -> bytes:
         raise Failed(f"{path}: it cannot be read ({error.strerror})") from None
 
 
-def _read_crates(root: str) -> dict[str, list[str]]:
-    needs = {}
+def _read_crates(root: str) -> dict[str, tuple[list[str], list[str]]]:
+    """By crate what kind it is, as `staticlib`, and what it names."""
+    needs: dict[str, tuple[list[str], list[str]]] = {}
     for line in read_file(os.path.join(root, "crates.txt")).decode("utf-8", "replace").splitlines():
-        name, colon, words = line.partition("#")[0].partition(":")
-        if colon:
-            needs[name.strip()] = words.split()
+        head, colon, words = line.partition("#")[0].partition(":")
+        if colon and head.strip():
+            needs[head.split()[0]] = (head.split()[1:], words.split())
     return needs
 
 
 def crates_of(root: str, crate: str) -> list[tuple[str, list[str]]]:
     """The crates that one is built of, with what each names; in the order in which the toolchain proves them."""
-    needs = _read_crates(root)
-    levels: dict[str, int] = {}
-    order: list[str] = []
+    needs = {name: words for name, (_, words) in _read_crates(root).items()}
+    order: dict[str, list[str]] = {}
+    seen = set()
 
-    def visit(name: str) -> int:
-        if name not in levels:
-            levels[name] = 0  # so that a cycle, which the toolchain refuses, ends here
-            levels[name] = max([visit(each) + 1 for each in needs.get(name, []) if each in needs], default=0)
-            order.append(name)
-        return levels[name]
+    def visit(name: str) -> None:
+        if name not in seen:
+            seen.add(name)  # so that a cycle, which the toolchain refuses, ends here
+            for each in needs.get(name, []):
+                if each in needs:
+                    visit(each)
+            order[name] = needs.get(name, [])
 
     visit(crate)
-    return [(name, needs.get(name, [])) for name in sorted(order, key=lambda each: levels[each])]
+    return list(order.items())
 
 
 def _entries(folder: str) -> list[os.DirEntry[str]]:
@@ -135,8 +137,9 @@ def source_paths(root: str, crate: str) -> tuple[list[str], list[str]]:
 def sources_of(root: str, crate: str) -> str:
     """The sum of all that a crate is built of."""
     digest = hashlib.sha256()
+    kinds = {name: kind for name, (kind, _) in _read_crates(root).items()}
     for name, needs in crates_of(root, crate):
-        digest.update(f"{name}: {' '.join(needs)}\n".encode())
+        digest.update(f"{' '.join([name, *kinds.get(name, [])])}: {' '.join(needs)}\n".encode())
         for path in source_paths(root, name)[0]:
             data = read_file(path)
             digest.update(os.fsencode(f"{os.path.relpath(path, root)} {len(data)}\n"))
@@ -146,8 +149,7 @@ def sources_of(root: str, crate: str) -> str:
 
 def _kit_name() -> str:
     """What `rt version` prints, read from the kit's own file where that stands: to run rt takes longer than all else here."""
-    rt = os.path.realpath(find_tool("rt") or "")
-    home = os.environ.get("RATTLE_HOME") or os.path.dirname(os.path.dirname(rt))
+    home = os.path.dirname(os.path.dirname(os.path.realpath(find_tool("rt") or "")))
     try:
         with open(os.path.join(home, "KIT-ID"), encoding="utf-8", errors="replace") as file:
             return file.readline().strip()
@@ -169,31 +171,38 @@ def made_of(root: str, crate: str, linked: bool = False) -> dict[str, str]:
 # ---- stamps ----
 
 
-def read_stamp(path: str) -> dict[str, str]:
+def stamp_of(path: str, root: str) -> str:
+    """Where the stamp of a built file is: not beside it, where the toolchain has one of its own."""
+    return os.path.join(root, "target", os.path.basename(path) + ".stamp")
+
+
+def _read_stamp(path: str, root: str) -> dict[str, str]:
     """The stamp of a built file; empty where there is none."""
     try:
-        with open(path + ".stamp", encoding="utf-8", errors="replace") as file:
+        with open(stamp_of(path, root), encoding="utf-8", errors="replace") as file:
             pairs = [line.rstrip("\n").partition(" ") for line in file]
     except OSError:
         return {}
     return {name: value for name, _, value in pairs}
 
 
-def write_stamp(path: str, made: dict[str, str]) -> None:
+def write_stamp(path: str, root: str, made: dict[str, str]) -> None:
     """Writes the stamp of a built file: whole, or not at all."""
     lines = {"file": hashlib.sha256(read_file(path)).hexdigest(), **made}
-    fresh = f"{path}.stamp.{os.getpid()}.new"
+    stamp = stamp_of(path, root)
+    fresh = f"{stamp}.{os.getpid()}.new"
     try:
+        os.makedirs(os.path.dirname(stamp), exist_ok=True)
         with open(fresh, "w", encoding="utf-8") as file:
             file.writelines(f"{name} {value}\n" for name, value in lines.items())
-        os.replace(fresh, path + ".stamp")
+        os.replace(fresh, stamp)
     except OSError as error:
         if os.path.exists(fresh):
             os.remove(fresh)
-        raise Failed(f"{path}.stamp: it cannot be written ({error.strerror})") from None
+        raise Failed(f"{stamp}: it cannot be written ({error.strerror})") from None
 
 
-def what_lacks(path: str, made: dict[str, str]) -> str:
+def what_lacks(path: str, root: str, made: dict[str, str]) -> str:
     """Why a file is not one that is made of this, in words that go on from its name; nothing where it is."""
     try:
         with open(path, "rb") as file:
@@ -202,7 +211,7 @@ def what_lacks(path: str, made: dict[str, str]) -> str:
         return NOT_BUILT
     except OSError as error:
         raise Failed(f"{path}: it cannot be read ({error.strerror})") from None
-    stamp = read_stamp(path)
+    stamp = _read_stamp(path, root)
     if stamp.get("file") != hashlib.sha256(data).hexdigest():
         return NOT_TOLD
     if stamp.get("sources") != made["sources"]:
@@ -216,15 +225,14 @@ def what_lacks(path: str, made: dict[str, str]) -> str:
 # ---- files that the toolchain built without us ----
 
 
-def mark_of(root: str, crate: str) -> str:
-    """The file that the toolchain leaves once a crate is proved, and a program has run."""
-    return os.path.join(root, "target", "stamp", crate)
+def library_of(root: str, crate: str) -> str:
+    """The folder that the toolchain makes of a library once it is proved, anew each time."""
+    return os.path.join(root, "crates", crate, "out", "rlib", f"{crate}.rlib")
 
 
-def is_of_sources(path: str, root: str, crate: str) -> bool:
-    """Whether a file that the toolchain built is of the sources as they are: none has changed since its first mark.
+def libraries_since(root: str, crate: str) -> list[int]:
+    """When the libraries below a crate were built, if all are and no source has changed since the first of them; else nothing.
 
-    So what was built from nothing is found to be fresh. What was built piece by piece may be fresh too, but rt alone can tell.
     A change is told by the time that no tool sets back, that of the last change of a file's entry: a source that was unpacked
     or copied with an old date counts as new. A folder counts too, since a file may have gone from it, and so does rt.
     """
@@ -234,10 +242,31 @@ def is_of_sources(path: str, root: str, crate: str) -> bool:
         files, folders = source_paths(root, name)
         paths += files + folders
     try:
-        marks = [os.stat(mark_of(root, name)).st_mtime_ns for name in crates if name != crate]
+        made = [os.stat(library_of(root, name)).st_ctime_ns for name in crates if name != crate]
         changes = [os.stat(each).st_ctime_ns for each in paths if os.path.exists(each)]
-        return max(changes) < min(marks) and max(marks) <= os.stat(path).st_mtime_ns
+        return made if max(changes) < min(made) else []
     except (FileNotFoundError, NotADirectoryError, ValueError):
+        return []
+
+
+def is_of_sources(path: str, root: str, crate: str) -> bool:
+    """Whether a file that the toolchain built is of the sources as they are: of libraries that are, and not older than these.
+
+    So what was built from nothing is found to be fresh. What was built piece by piece may be fresh too, but rt alone can tell.
+    """
+    made = libraries_since(root, crate)
+    return bool(made) and max(made) <= os.stat(path).st_mtime_ns
+
+
+def is_whole_program(path: str, root: str, crate: str) -> bool:
+    """Whether a program is known to be whole: by the stamp that `rt run` leaves beside it, whose end is the program's sum, or since
+    it has run in `rt ci`, which leaves beside it what it wrote."""
+    wanted, wrote = os.path.join(root, "crates", crate, "stdout"), os.path.join(os.path.dirname(path), "stdout")
+    try:
+        if os.path.exists(path + ".stamp"):
+            return read_file(path + ".stamp").endswith(hashlib.sha256(read_file(path)).hexdigest().encode())
+        return read_file(wrote) == read_file(wanted) and os.stat(wrote).st_mtime_ns >= os.stat(path).st_mtime_ns
+    except (OSError, Failed):
         return False
 
 

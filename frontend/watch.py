@@ -19,9 +19,13 @@ if TYPE_CHECKING:
 
 SIGN = 10.0  # seconds that may pass without a word
 
-# The toolchain's last line on a crate; and what a line has that tells an error.
-VERDICT = re.compile(r"rt: (\w+) (?:proved \((.*)|(NOT PROVED.*|proved, and its run FAILED.*))")
-ERROR = re.compile(r"\berror\b|No space left|Killed|not found|undefined reference", re.IGNORECASE)
+# The toolchain's lines: a crate is at hand, of one that is unchanged nothing is said; the verdict on it; a crate that stops the
+# others, proved or not; and the program runs, whose own lines are all that follows. And what a line has that tells an error.
+AT_HAND = re.compile(r"rt: chose --jobs \d+ for (\w+)$")
+VERDICT = re.compile(r"logic=([\w-]+)")
+STOPPED = re.compile(r"rt: the library (\w+) did not build")
+RUNNING = re.compile(r"rt: running out/")
+ERROR = re.compile(r"\berror(\[[\w-]+\])?:|No space left|Killed|not found|undefined reference", re.IGNORECASE)
 
 
 class Signals:
@@ -76,25 +80,43 @@ class Progress:
         self.failed = ""  # the first crate that is not proved
         self.error = ""  # and the first error there
         self.last = ""  # the last line of all
+        self.has_run = False  # whether the program has
+        self.printed = ""  # and what it printed
+        self._at_hand = ""  # the crate that is proved now
         self._error = ""  # the first error since the last verdict
         self._said = len(crates)
         self._began = self._spoke = time.monotonic()
 
     def take(self, line: str) -> None:
-        """One line of the builder."""
-        self.last = line if line.strip() else self.last
-        verdict = VERDICT.match(line)
-        if not verdict:
-            if not self._error and ERROR.search(line):
-                self._error = line
-            return
-        name, how, not_proved = verdict.groups()
+        """One line of the builder; the last one of all may lack its end."""
+        text = line.rstrip("\n")
+        self.last = text if text.strip() else self.last
+        if self.has_run:
+            self.printed += line
+        elif found := AT_HAND.match(text):
+            self._begin(found[1])
+        elif found := VERDICT.match(text):
+            self._end(self._at_hand, "" if found[1] == "proved" else text)
+        elif found := STOPPED.match(text):
+            self._end(found[1], text)
+        elif RUNNING.match(text):
+            self.has_run = True
+        elif not self._error and ERROR.search(text):
+            self._error = text
+
+    def _begin(self, name: str) -> None:
+        """What comes before it is proved, and was before."""
+        while name in self.left and (before := next(iter(self.left))) != name:
+            del self.left[before]
+        self._at_hand, self._error = name, ""
+
+    def _end(self, name: str, not_proved: str) -> None:
+        """The verdict on a crate."""
         if not_proved and not self.failed:
-            self.failed, self.error = name, self._error or line
+            self.failed, self.error = name, self._error or not_proved
         elif not not_proved and name in self.left:
             del self.left[name]
-            if not how.startswith("unchanged"):
-                self._tell_proved(name)
+            self._tell_proved(name)
         self._error = ""
 
     def tick(self) -> None:
@@ -118,6 +140,8 @@ class Progress:
         """The first failure, in one line: where no crate has failed the one at hand is it, if any is."""
         crate = self.failed or next(iter(self.left), "")
         line = (self.error or self._error or self.last or "nothing was said")[:300]
+        if self.has_run:
+            return f"{self.crates[-1]} is proved, and its run failed: {line}"
         return f"{crate} is not proved: {line}" if crate else line
 
     def seconds(self) -> int:
@@ -133,15 +157,16 @@ class Progress:
         self._spoke = time.monotonic()
 
 
-def run(words: list[str], folder: str, log: FileIO, progress: Progress, signals: Signals, keep: list[int]) -> int:
-    """Runs a builder in a folder; its status. It has the descriptors `keep` open, and what it says goes to the log.
+def run(words: list[str], folder: str, given: str, log: FileIO, progress: Progress, signals: Signals, keep: list[int]) -> int:
+    """Runs a builder in a folder, on a file; its status. It has the descriptors `keep` open, and what it says goes to the log.
 
     It has a session of its own. So a signal from the terminal comes here alone, and from here all ends that was started there:
     the jobs that a shell has put in the background ignore the terminal's.
     """
     try:
-        process = subprocess.Popen(words, cwd=folder, stdin=subprocess.DEVNULL, stdout=subprocess.PIPE, stderr=subprocess.STDOUT,
-                                   start_new_session=True, pass_fds=keep)
+        with open(given, "rb") as there:
+            process = subprocess.Popen(words, cwd=folder, stdin=there, stdout=subprocess.PIPE, stderr=subprocess.STDOUT,
+                                       start_new_session=True, pass_fds=keep)
     except OSError as error:
         raise Failed(f"{words[0]}: it cannot be run ({error.strerror})") from None
     assert process.stdout
@@ -165,7 +190,7 @@ def _follow(process: subprocess.Popen[bytes], said: int, log: FileIO, progress: 
             write_all(log.fileno(), data)
             *lines, rest = (rest + data).split(b"\n")
             for line in lines:
-                progress.take(line.decode("utf-8", "replace"))
+                progress.take(line.decode("utf-8", "replace") + "\n")
         elif process.poll() is not None:
             break  # something that it has left behind holds the pipe
         progress.tick()

@@ -10,6 +10,7 @@ import subprocess
 import tempfile
 from typing import Any, Optional
 
+from frontend import build
 from frontend.structure import Structure, read_structure
 
 ROOT = os.path.dirname(os.path.dirname(os.path.dirname(os.path.abspath(__file__))))
@@ -122,7 +123,7 @@ _made: list[Any] = []
 
 def real_library() -> Any:
     """The archive's calls, or None where it is not built: a test never builds it."""
-    archive = os.environ.get("CARDHOST_LIB") or os.path.join(ROOT, "target", "staticlib", "libcardhost.a")
+    archive = os.environ.get("CARDHOST_LIB") or os.path.join(ROOT, build.ARCHIVE.file)
     if not _made and os.path.exists(archive) and shutil.which("gcc"):
         from frontend.engine import Library
 

@@ -6,15 +6,14 @@ import os
 import tempfile
 import unittest
 
-from frontend import engine
+from frontend import build, engine
 from frontend.words import Text, read_text
 
 
 def has_engine() -> bool:
     """Whether the program and the archive are there; a test builds neither."""
-    built = os.path.join(engine.root(), "target")
-    program = os.environ.get("CARDGRADE") or os.path.join(built, "bin", "cardgrade")
-    library = os.environ.get("CARDHOST_LIB") or os.path.join(built, "staticlib", "libcardhost.a")
+    program = os.environ.get("CARDGRADE") or os.path.join(engine.root(), build.PROGRAM.file)
+    library = os.environ.get("CARDHOST_LIB") or os.path.join(engine.root(), build.ARCHIVE.file)
     return os.path.exists(program) and os.path.exists(library)
 
 

@@ -12,7 +12,7 @@ from unittest import mock
 from frontend import build, stamp
 from frontend.tests.building import CRATES, HERE, Case
 
-ARCHIVE = os.path.join(HERE, "target/staticlib/libcardhost.a")
+ARCHIVE = os.path.join(HERE, build.ARCHIVE.file)
 
 
 class Stale(Case):
@@ -35,7 +35,7 @@ class Stale(Case):
         self.run_it()
         self.put("crates/cardgrade/src/lib.rt", "# another\n")
         self.rebuilt("is older than its sources")
-        self.assertIn("# another\n", self.read("target/bin/cardgrade"))
+        self.assertIn("# another\n", self.read("crates/cardgrade/out/cardgrade"))
         self.put("crates/word32/specs/Lib.antt", "another\n")
         self.rebuilt("is older than its sources")
         self.put("crates/lists/src/more/new.rt", "new\n")
@@ -74,31 +74,32 @@ class Stale(Case):
         with open(os.path.join(self.room, "KIT-ID"), "w", encoding="utf-8") as file:
             file.write("rattle 1\n")
         self.run_it(VERSION="")
-        self.assertIn("toolchain rattle 1\n", self.read("target/bin/cardgrade.stamp"))
+        self.assertIn("toolchain rattle 1\n", self.read("target/cardgrade.stamp"))
 
     def test_changed_back(self) -> None:
         """The toolchain alone has built it of other sources, which are gone again."""
         self.run_it()
-        self.put("target/bin/cardgrade", "# of other sources\n")
+        self.put("crates/cardgrade/out/cardgrade", "# of other sources\n")
         os.utime(self.path("crates/lists/src/lib.rt"))
         self.rebuilt("does not tell what it was built of")
 
     def test_cut_short(self) -> None:
         self.run_it()
-        self.put("target/bin/cardgrade", "#")
+        self.put("crates/cardgrade/out/cardgrade", "#")
         self.rebuilt("does not tell what it was built of")
-        self.assertIn("# cardgrade\n", self.read("target/bin/cardgrade"))
+        self.assertIn("# cardgrade\n", self.read("crates/cardgrade/out/cardgrade"))
 
     def test_removed(self) -> None:
-        """The toolchain would say that it is unchanged."""
+        """The toolchain knows its sources as unchanged."""
         self.run_it()
-        os.remove(self.path("target/bin/cardgrade"))
+        os.remove(self.path("crates/cardgrade/out/cardgrade"))
         self.assertIn("the program is not built", self.run_it())
-        self.assertIn("# cardgrade\n", self.read("target/bin/cardgrade"))
+        self.assertIn("# cardgrade\n", self.read("crates/cardgrade/out/cardgrade"))
 
     def test_not_to_be_run(self) -> None:
+        """The toolchain would say that it is unchanged."""
         self.run_it()
-        os.chmod(self.path("target/bin/cardgrade"), 0o644)
+        os.chmod(self.path("crates/cardgrade/out/cardgrade"), 0o644)
         self.assertIn("the program cannot be run: it is built again", self.run_it())
 
     def test_changed_meanwhile(self) -> None:
@@ -129,44 +130,77 @@ class Stale(Case):
 class TakenOver(Case):
     """What the toolchain has built by itself has no stamp."""
 
-    def by_itself(self, command: str, crate: str) -> None:
+    def by_itself(self, command: str, folder: str = "") -> None:
         environment = {"PATH": self.tools, "ROOM": self.room, **self.variables}
         time.sleep(0.02)
-        subprocess.run([os.path.join(self.tools, "rt"), command, crate], cwd=self.root, env=environment, check=True, stdout=subprocess.DEVNULL)
+        subprocess.run([os.path.join(self.tools, "rt"), command], cwd=self.path(folder), env=environment, check=True,
+                       stdin=subprocess.DEVNULL, stdout=subprocess.DEVNULL, stderr=subprocess.DEVNULL)
 
     def test_program(self) -> None:
-        self.by_itself("check", "cardgrade")
+        self.by_itself("run", "crates/cardgrade")
         self.assertEqual(self.run_it(), "")
         self.assertEqual(self.count("calls"), 1)
         self.put("crates/lists/src/lib.rt", "another\n")
         self.assertIn("is older than its sources", self.run_it())
 
+    def test_gate(self) -> None:
+        """After `rt ci`, which leaves the program, and of libraries what those above need; a change is built over that."""
+        self.by_itself("ci")
+        self.assertEqual(self.run_it(), "")
+        self.assertEqual(self.count("calls"), 1)
+        self.by_itself("ci")
+        self.assertEqual(self.run_it(), "")
+        self.assertEqual(self.count("calls"), 2)
+        self.put("crates/lists/src/lib.rt", "another\n")
+        self.assertIn("is older than its sources", self.run_it())
+
+    def test_gate_again(self) -> None:
+        """`rt ci` takes the archive away, and the library that is made of it stays."""
+        self.run_it("shared_library")
+        self.by_itself("ci")
+        self.assertEqual(self.run_it("shared_library"), "")
+        self.assertFalse(os.path.exists(self.path("crates/cardhost/out")))
+        self.assertEqual((self.count("calls"), self.count("links")), (2, 1))
+
+    def test_gate_unfinished(self) -> None:
+        """Without what the program wrote, as where the gate was cut short before it ran; or it wrote something else, or another has run."""
+        self.by_itself("ci")
+        wrote = self.path("crates/cardgrade/out/stdout")
+        for spoil in (lambda: os.remove(wrote), lambda: self.put("crates/cardgrade/out/stdout", "its"), lambda: os.utime(wrote, (0, 0))):
+            shutil.rmtree(self.path("target"), ignore_errors=True)
+            self.by_itself("ci")
+            spoil()
+            self.assertIn("the program does not tell what it was built of", self.run_it())
+
     def test_without_toolchain(self) -> None:
-        self.by_itself("check", "cardgrade")
+        self.by_itself("run", "crates/cardgrade")
         os.remove(os.path.join(self.tools, "rt"))
         self.assertEqual(self.run_it(), "")
 
     def test_younger_source(self) -> None:
         """Also one with an old date, as an archive's unpacking leaves it."""
-        self.by_itself("check", "cardgrade")
+        self.by_itself("run", "crates/cardgrade")
         self.put("crates/lists/src/lib.rt", "another\n")
         os.utime(self.path("crates/lists/src/lib.rt"), (0, 0))
         self.assertIn("the program does not tell what it was built of: it is built again", self.run_it())
 
     def test_unfinished(self) -> None:
-        """Without the mark, as where it was cut short."""
-        self.by_itself("check", "cardgrade")
-        os.remove(self.path("target/stamp/cardgrade"))
+        """Without the toolchain's stamp, as where it was cut short, or with that of another."""
+        self.by_itself("run", "crates/cardgrade")
+        os.remove(self.path("crates/cardgrade/out/cardgrade.stamp"))
+        self.assertIn("the program does not tell what it was built of", self.run_it())
+        shutil.rmtree(self.path("target"))
+        self.put("crates/cardgrade/out/cardgrade", "#")
         self.assertIn("the program does not tell what it was built of", self.run_it())
 
     def test_archive(self) -> None:
-        self.by_itself("staticlib", "cardhost")
+        self.by_itself("lib", "crates/cardhost")
         self.assertEqual(self.run_it("shared_library"), "")
         self.assertEqual((self.count("calls"), self.count("links")), (1, 1))
 
     def test_archive_cut_short(self) -> None:
-        self.by_itself("staticlib", "cardhost")
-        with open(self.path("target/staticlib/libcardhost.a"), "r+b") as file:
+        self.by_itself("lib", "crates/cardhost")
+        with open(self.path("crates/cardhost/out/libcardhost.a"), "r+b") as file:
             file.truncate(70)
         self.assertIn("the archive does not tell what it was built of", self.run_it("shared_library"))
         self.assertEqual(self.count("calls"), 2)
@@ -180,13 +214,14 @@ class Library(Case):
         self.assertIn("cardgrade: the archive is not built: first its 3 crates are proved", said)
         self.assertEqual(self.run_it("shared_library"), "")
         self.assertEqual((self.count("calls"), self.count("links")), (1, 1))
-        self.assertEqual(sorted(os.listdir(self.path("target/staticlib"))),
-                         ["libcardhost.a", "libcardhost.a.stamp", "libcardhost.so", "libcardhost.so.stamp"])
+        self.assertEqual(os.listdir(self.path("crates/cardhost/out")), ["libcardhost.a"])
+        self.assertEqual(sorted(os.listdir(self.path("target"))),
+                         ["build.lock", "build.log", "libcardhost.a.stamp", "libcardhost.so", "libcardhost.so.stamp"])
 
     def test_archive_is_there(self) -> None:
         """It is linked anew, and not built."""
         self.run_it("shared_library")
-        os.remove(self.path("target/staticlib/libcardhost.so"))
+        os.remove(self.path("target/libcardhost.so"))
         self.assertEqual(self.run_it("shared_library"), "")
         self.assertEqual(self.run_it("shared_library", LINKER="gcc 2"), "")
         self.assertEqual((self.count("calls"), self.count("links")), (1, 3))
@@ -205,11 +240,11 @@ class Library(Case):
     def test_failed(self) -> None:
         said = self.run_it("shared_library", status=2, PLAN_OF_LINK="echo a.o: undefined reference to x >&2; exit 1")
         self.assertRegex(said, "cardgrade: a.o: undefined reference to x\ncardgrade: the build failed; .*/target/build.log has all that was said\n")
-        self.assertNotIn("libcardhost.so.new", os.listdir(self.path("target/staticlib")))
+        self.assertNotIn("libcardhost.so.new", os.listdir(self.path("target")))
 
     def test_named(self) -> None:
         self.run_it("shared_library")
-        archive = self.path("target/staticlib/libcardhost.a")
+        archive = self.path("crates/cardhost/out/libcardhost.a")
         run = self.start("shared_library", CARDHOST_LIB=archive, PLAN_OF_LINK="cd \"$ROOM\"; mkdir -p target/linking")
         os.makedirs(os.path.join(self.room, "target"))
         self.assertRegex(run.communicate()[0], "^/proc/self/fd/[0-9]+\n$")

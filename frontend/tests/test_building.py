@@ -25,14 +25,14 @@ class AtOnce(Case):
             self.end(first)
             self.assertEqual([self.end(other) for other in others], [""] * (count - 1))
             self.assertEqual(self.count("calls"), 1)
-            shutil.rmtree(self.path("target"))
+            self.remove_built()
             for name in ("go", "group", "calls"):
                 os.remove(os.path.join(self.room, name))
 
     def test_links(self) -> None:
         """All that link at once."""
         for _ in range(4):
-            shutil.rmtree(self.path("target"), ignore_errors=True)
+            self.remove_built()
             for run in [self.start("shared_library", PLAN_OF_LINK="sleep 0.1") for _ in range(3)]:
                 self.end(run)
         self.assertEqual((self.count("calls"), self.count("links")), (4, 4))
@@ -54,7 +54,7 @@ class AtOnce(Case):
 
     def test_killed(self) -> None:
         """A toolchain whose front end was killed may go on for a time: nobody else builds before it has ended."""
-        first = self.start(PLAN='wait_to_go; rmdir target/busy; exit')
+        first = self.start(PLAN='wait_to_go; rmdir busy; exit')
         self.wait_for("group")
         first.kill()
         first.communicate()
@@ -66,11 +66,12 @@ class AtOnce(Case):
         self.assertEqual(self.count("calls"), 2)
 
     def test_folder_gone(self) -> None:
-        """`rt ci` removes target/, with the lock: who waits does not wait for a lock that is no longer there."""
+        """Somebody removes target/, with the lock: who waits does not wait for a lock that is no longer there."""
         first = self.start(PLAN="wait_to_go")
         self.wait_for("group")
         second = self.start()
         self.line(second)
+        os.rmdir(self.path("busy"))
         shutil.rmtree(self.path("target"))
         self.end(second)
         self.go()
@@ -80,7 +81,7 @@ class AtOnce(Case):
 class Ended(Case):
     """A signal ends the build with all that it started."""
 
-    # As rt does it: provers in the background of a shell, which ignore the terminal's signal, and one that ignores more.
+    # Provers in the background of a shell, which ignore the terminal's signal, and one that ignores more.
     PLAN = """(trap '' INT; sleep 60) & sh -c 'trap "" TERM INT HUP; sleep 60' & echo 1 >"$ROOM/ready"; wait"""
 
     def ended(self, number: signal.Signals) -> None:
@@ -91,7 +92,7 @@ class Ended(Case):
         said = self.end(run, 2)
         self.assertIn("cardgrade: the build was ended by a signal; what is proved so far stays proved\n", said)
         self.assertEqual(self.members(), [])
-        os.rmdir(self.path("target/busy"))
+        os.rmdir(self.path("busy"))
         self.run_it()
 
     def test_interrupt(self) -> None:
@@ -119,7 +120,7 @@ class Ended(Case):
         run.send_signal(signal.SIGINT)
         self.end(run, 2)
         self.assertEqual(self.members(), [])
-        self.assertNotIn("libcardhost.so.new", os.listdir(self.path("target/staticlib")))
+        self.assertNotIn("libcardhost.so.new", os.listdir(self.path("target")))
 
 
 class Failure(Case):
@@ -131,31 +132,49 @@ class Failure(Case):
         self.assertTrue(said.endswith(f"cardgrade: {first}\ncardgrade: the build failed; {log} has all that was said\n"), said)
 
     def test_not_proved(self) -> None:
-        plan = """echo 'rt: lists proved (3 s)'; echo 'fn word32::bit: not proved'; echo 'crates/word32/proofs/Lib.antt:3:4: error: no'
-            echo 'x.antt:5:6: error: nor this'; echo 'rt: word32 NOT PROVED (exit 1, 2 s)'; echo 'z.antt: error: other'
-            echo 'rt: report NOT PROVED: its dependency word32 is not proved'; echo 'rt: FAILED: word32 report'; exit 1"""
-        self.failed(plan, "word32 is not proved: crates/word32/proofs/Lib.antt:3:4: error: no")
+        plan = """echo 'rt: chose --jobs 2 for lists'; echo 'fn lists::error::f: proved'; echo 'logic=proved functions=1'
+            echo 'rt: chose --jobs 2 for word32'; echo './proofs/Lib.antt:3:4: error: no'; echo 'x.antt:5:6: error: nor this'
+            echo 'fn word32::bit: not proved'; echo 'logic=not-proved'; echo 'z.antt: error: other'; echo 'only=0 proved=0'
+            echo 'rt: the library word32 did not build, so nothing above it was checked' >&2; exit 1"""
+        self.failed(plan, "word32 is not proved: ./proofs/Lib.antt:3:4: error: no")
         log = self.read("target/build.log")
-        self.assertTrue(log.startswith(f"$ {self.tools}/rt check cardgrade\nrt: lists proved (3 s)\n"))
-        self.assertTrue(log.endswith("rt: FAILED: word32 report\n"))
+        self.assertTrue(log.startswith(f"$ cd crates/cardgrade && {self.tools}/rt run <stdin\nrt: chose --jobs 2 for lists\n"))
+        self.assertTrue(log.endswith("rt: the library word32 did not build, so nothing above it was checked\n"))
+
+    def test_not_read(self) -> None:
+        """A crate that is not even read has no verdict."""
+        plan = """proved lists; rmdir busy; echo "rt: chose --jobs 2 for $CRATE"; echo 'rattle build: nothing was built'
+            echo 'src/lib.rt:12:5: error[unknown-name]: no value `y`'; echo '/crates/src/lib.rt:12:5: error[unknown-name]: no value `y`'
+            [ $CRATE = cardgrade ] || echo "rt: the library $CRATE did not build, so nothing above it was checked"; exit 1"""
+        for crate in ("word32", "cardgrade"):
+            self.variables["CRATE"] = crate
+            self.failed("proved() { echo \"rt: chose --jobs 2 for $1\"; echo logic=proved; }; " + plan,
+                        f"{crate} is not proved: src/lib.rt:12:5: error[unknown-name]: no value `y`")
 
     def test_without_verdict(self) -> None:
-        self.failed("echo 'rt: lists proved (3 s)'; echo 'cannot go on'; exit 2", "word32 is not proved: cannot go on")
+        self.failed("echo 'rt: chose --jobs 2 for lists'; echo 'logic=proved functions=1'; echo 'cannot go on'; exit 2",
+                    "word32 is not proved: cannot go on")
 
     def test_its_run(self) -> None:
-        plan = "for each in lists word32 report cardgrade; do echo \"rt: $each proved (1 s)\"; done; " \
-            "echo 'rt: cardgrade proved, and its run FAILED (0 s)'; exit 1"
-        self.failed(plan, "cardgrade is not proved: rt: cardgrade proved, and its run FAILED (0 s)")
+        """It fails, or prints something else; the program is not taken for one that is built."""
+        plan = "for each in lists word32 report cardgrade; do echo \"rt: chose --jobs 2 for $each\"; echo logic=proved; done; " \
+            "echo 'rt: running out/cardgrade; to give it other input, run that file yourself'; rmdir busy; "
+        self.failed(plan + "echo 'cardgrade: no'; exit 2", "cardgrade is proved, and its run failed: cardgrade: no")
+        for printed in ("", "its grading\n", "its grading\nin two lines", "its grading\nin two lines\n\n"):
+            self.failed(f"{plan} mkdir -p crates/cardgrade/out; echo >crates/cardgrade/out/cardgrade; printf '{printed}'; exit",
+                        "cardgrade is proved, and its run failed: it does not print what crates/cardgrade/stdout has")
+            self.assertFalse(os.path.exists(self.path("crates/cardgrade/out/cardgrade")))
+        self.assertIn("the program is not built", self.run_it())
 
     def test_nothing_built(self) -> None:
-        self.failed("rmdir target/busy; exit 0", "rt has left no target/bin/cardgrade")
+        self.failed("rmdir busy; exit 0", "rt has left no crates/cardgrade/out/cardgrade")
         self.failed("exit 1", "lists is not proved: nothing was said")
 
     def test_stale_is_not_used(self) -> None:
         self.run_it()
         self.put("crates/lists/src/lib.rt", "another\n")
-        self.failed("echo 'rt: lists NOT PROVED (exit 1, 2 s)'; rmdir target/busy; exit 1",
-                    "lists is not proved: rt: lists NOT PROVED (exit 1, 2 s)")
+        self.failed("echo 'rt: chose --jobs 2 for lists'; echo logic=not-proved; rmdir busy; exit 1",
+                    "lists is not proved: logic=not-proved")
         self.assertIn("the program is older than its sources", self.run_it())
 
     def test_toolchain_cannot_be_run(self) -> None:
@@ -174,7 +193,8 @@ class Place(Case):
 
     def test_no_rights(self) -> None:
         user = "" if os.getuid() else "65534"
-        for path, where in (("", "target"), ("target", "target"), ("target/rlib", "target/rlib")):
+        for path, where in (("", "target"), ("target", "target"), ("crates/lists", "crates/lists"),
+                            ("crates/lists/out", "crates/lists/out"), ("crates/lists/out/rlib", "crates/lists/out/rlib")):
             os.makedirs(self.path(path), exist_ok=True)
             os.chmod(self.path(path), 0o555)
             said = self.run_it(status=2, user=user)
@@ -185,14 +205,14 @@ class Place(Case):
     def test_built_and_no_rights(self) -> None:
         """What is fresh is used, also where its stamp cannot be written."""
         self.run_it()
-        os.remove(self.path("target/bin/cardgrade.stamp"))
-        os.chmod(self.path("target/bin"), 0o555)
+        os.remove(self.path("target/cardgrade.stamp"))
+        os.chmod(self.path("target"), 0o555)
         self.assertEqual(self.run_it(user="" if os.getuid() else "65534"), "")
-        os.chmod(self.path("target/bin"), 0o755)
+        os.chmod(self.path("target"), 0o755)
 
     def test_no_room(self) -> None:
         with mock.patch.dict(os.environ, {"PATH": self.tools, "CARDGRADE": ""}), mock.patch.object(lock, "ROOM", 10**18):
-            with self.assertRaisesRegex(errors.Failed, "/target has room for [0-9]+ MB, and building takes up to [0-9]+ MB$"):
+            with self.assertRaisesRegex(errors.Failed, "/check out has room for [0-9]+ MB, and building takes up to [0-9]+ MB$"):
                 build.program(self.root)
         self.assertEqual(self.count("calls"), 0)
 
@@ -201,7 +221,7 @@ class Signs(Case):
     """How a build goes on."""
 
     def test_count(self) -> None:
-        """To none left, also where the toolchain does not say that the last crate is proved."""
+        """To none left, also where the toolchain does not say that the last crate is proved. It says nothing of what is unchanged."""
         self.assertEqual(self.run_it("shared_library").splitlines()[1:4], [
             "cardgrade: lists is proved, 2 of 3 crates left",
             "cardgrade: word32 is proved, 1 of 3 crates left",
@@ -211,14 +231,14 @@ class Signs(Case):
             "cardgrade: cardgrade is proved, 0 of 4 crates left"])
 
     def test_signs_of_life(self) -> None:
-        said = self.run_it(sign=0.3, PLAN="sleep 0.8; echo 'rt: lists proved (1 s)'; sleep 0.8")
+        said = self.run_it(sign=0.3, PLAN="sleep 0.8; echo 'rt: chose --jobs 2 for lists'; echo logic=proved; sleep 0.8")
         self.assertRegex(said, "(cardgrade: proving lists, 4 of 4 crates left, [0-9] s\n){2}")
         self.assertRegex(said, "cardgrade: lists is proved, 3 of 4 crates left\n(cardgrade: proving word32, 3 of 4 crates left, [0-9] s\n){2}")
         self.assertRegex(said, "\ncardgrade: the program is built, in [0-9] s\n$")
 
     def test_order(self) -> None:
-        """Level by level, as the toolchain goes."""
-        self.put("crates.txt", "c: b\nb: a  # and\na:\nd: a libc\ne: d c a\n")
+        """Each after those that it names, in their order, as the toolchain goes."""
+        self.put("crates.txt", "c: b\nb: a  # and\na:\nd: a anyhow\ne staticlib: d c a\n")
         self.assertEqual([name for name, _ in stamp.crates_of(self.root, "e")], ["a", "d", "b", "c", "e"])
         self.put("crates.txt", "a: b\nb: a\n")
         self.assertEqual(len(stamp.crates_of(self.root, "a")), 2)

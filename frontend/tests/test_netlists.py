@@ -11,6 +11,7 @@ import tempfile
 import unittest
 from collections import Counter
 
+from frontend import build
 from frontend.design import Design, fault_name, fault_site, own_faults
 from frontend.netlist import Cell, Netlist, NetlistError, lower
 from frontend.recipes import FUNCTIONS
@@ -18,7 +19,7 @@ from frontend.tests.netlist_sim import all_vectors, gate_values, netlist_outputs
 from frontend.wiring import pin_name
 
 ROOT = os.path.dirname(os.path.dirname(os.path.dirname(os.path.abspath(__file__))))
-ARCHIVE = os.environ.get("CARDHOST_LIB") or os.path.join(ROOT, "target/staticlib/libcardhost.a")
+ARCHIVE = os.environ.get("CARDHOST_LIB") or os.path.join(ROOT, build.ARCHIVE.file)
 
 
 def kept_cells(netlist: Netlist) -> list[Cell]:
