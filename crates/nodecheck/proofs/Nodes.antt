@@ -103,3 +103,6 @@ module _ (ws : List ℕ) (h g n : ℕ) (few : n ≤ 4096) where
           names = (named_by (after_at ws p) on ed).1;
           same = sym (nodes-go ws g h n k less (sym (read_is Sound told)) good) ∙ i.same;
         }
+
+        pub nearer : n - (k + 1) < n - k
+        nearer = omega (arith, less)
