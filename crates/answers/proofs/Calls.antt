@@ -1,6 +1,6 @@
 -- How a call opens, and what it comes to, by words or in bytes. Assumes nothing.
 use Prim.Native.Nat.{ℕ}
-use mathlib.Core.Path.{◌≡◌, refl}
+use mathlib.Core.Path.{◌≡◌, refl, ap}
 use native.Mathlib.Omega.{arith}
 use Rattle.answers.specs.declared.Rule.{Rule}
 use Rattle.answers.specs.declared.Counts.{Counts}
@@ -41,6 +41,18 @@ outcome-same (Accepted c) f g same e = rw (same c refl) (by (first_broken (g c).
     by : (v : Verdict) → (v ≡ Sound → outcome_by Sound (f c) ≡ outcome_by Sound (g c)) → outcome_by v (f c) ≡ outcome_by v (g c)
     by Sound h = h refl
     by (Broken r p) h = refl
+
+-- and where that holds but for the words of a second buffer, they have one reply and one first buffer
+pub outcome-first : (a : Answer) (f g : Counts → Work) → ((c : Counts) → a ≡ Accepted c → first_broken (f c).tests ≡ first_broken (g c).tests)
+    → ((c : Counts) → a ≡ Accepted c → ((f c).number ≡ (g c).number) × ((f c).words ≡ (g c).words))
+    → ((outcome a f).reply ≡ (outcome a g).reply) × ((outcome a f).words ≡ (outcome a g).words)
+unfolding outcome following
+outcome-first (Refused r p) f g same e = (refl, refl)
+outcome-first (Accepted c) f g same e = rw (same c refl) (by (first_broken (g c).tests))
+  where
+    by : (v : Verdict) → ((outcome_by v (f c)).reply ≡ (outcome_by v (g c)).reply) × ((outcome_by v (f c)).words ≡ (outcome_by v (g c)).words)
+    by Sound = (ap reply.Done (e c refl).0, (e c refl).1)
+    by (Broken r p) = (refl, refl)
 
 -- two calls that go on alike where one thing is accepted are one call
 pub following-same : (a : Answer) (f g : Counts → Outcome) → ((c : Counts) → a ≡ Accepted c → f c ≡ g c) → following a f ≡ following a g

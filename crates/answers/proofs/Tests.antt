@@ -1,16 +1,17 @@
 -- What a sound verdict tells of its tests. Assumes nothing.
-use Prim.Native.Nat.{ℕ}
+use Prim.Native.Nat.{ℕ, ◌≤◌}
 use mathlib.Core.Path.{◌≡◌, refl}
 use mathlib.Core.List.{List, [], ◌∷◌}
 use mathlib.Core.Bool.{Bool, true, false}
 use native.Mathlib.Omega.{arith}
+use borrow.Author.Tests.{ltb-false}
 use Rattle.answers.specs.declared.Rule.{Rule}
 use Rattle.answers.specs.declared.Counts.{Counts}
 use Rattle.answers.specs.declared.Verdict.{Verdict}
 use Rattle.answers.specs.declared.Verdict.TheVariants.{Sound, Broken}
 use Rattle.answers.specs.declared.Answer.{Answer}
 use Rattle.answers.specs.declared.Answer.TheVariants.{Accepted}
-use Rattle.answers.specs.Tests.{Test, unless, first_broken, and_then, onward}
+use Rattle.answers.specs.Tests.{Test, unless, first_broken, and_then, onward, room_tests}
 
 pub not_sound : (r : Rule) (p : ℕ) → Broken r p ≡ Sound → ⊥
 not_sound r p e = let z : ◌≡◌ {A = ℕ} 0 1 = cc in omega arith
@@ -49,3 +50,10 @@ passed-sound (t ∷ ts) p = rw (p.0, passed-sound ts p.1)
 
 pub accepts-onward : {v : Verdict} {a : Answer} {c : Counts} → v ≡ Sound → a ≡ Accepted c → onward v a ≡ Accepted c
 accepts-onward e e' = rw (e, e')
+
+-- two buffers that pass have the room
+pub rooms-enough : (n first second : ℕ) → first_broken (room_tests n first second) ≡ Sound → (n ≤ first) × (n ≤ second)
+unfolding room_tests
+rooms-enough n first second e =
+    let p = all-passed (room_tests n first second) e in
+    (ltb-false first n p.0, ltb-false second n p.1.0)

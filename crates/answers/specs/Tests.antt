@@ -1,6 +1,7 @@
 -- Tests in document 01's order, of which the first broken one counts. Assumes nothing.
-use Rattle.std.specs.Prelude.{ℕ, List, [], ◌∷◌, Bool, true, false}
+use Rattle.std.specs.Prelude.{ℕ, List, [], ◌∷◌, Bool, true, false, ltb}
 use Rattle.answers.specs.declared.Rule.{Rule}
+use Rattle.answers.specs.declared.Rule.TheVariants.{BufferTooShort}
 use Rattle.answers.specs.declared.Verdict.{Verdict}
 use Rattle.answers.specs.declared.Verdict.TheVariants.{Sound, Broken}
 use Rattle.answers.specs.declared.Answer.{Answer}
@@ -32,3 +33,7 @@ and_then (Broken r p) v = Broken r p
 abbrev pub onward : Verdict → Answer → Answer
 onward Sound a = a
 onward (Broken r p) a = Refused r p
+
+-- THE ROOM OF TWO BUFFERS of so many words, each of which wants n: the first is tested before the second
+unfoldable pub room_tests : ℕ → ℕ → ℕ → List Test
+room_tests n first second = test (ltb first n) BufferTooShort 0 ∷ test (ltb second n) BufferTooShort 1 ∷ []

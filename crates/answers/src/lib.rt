@@ -4,6 +4,7 @@
 
 ghost use Rattle.std.specs.Prelude.{◌≡◌};
 ghost use Rattle.answers.specs.Answers.{number_of};
+ghost use Rattle.answers.specs.Tests.{first_broken, room_tests};
 ghost use Rattle.answers.specs.Ends.{end_refused};
 
 // The limits of a card and of a list of vectors; specs/Limits.antt has the same.
@@ -119,4 +120,18 @@ pub fn refused(rule: Rule, position: usize) -> Ended
         words: 0,
         more: 0,
     }
+}
+
+// The room of two buffers of so many words, each of which wants n.
+#[tactic(auto, unfolding(crate::specs::Tests::room_tests))]
+pub fn test_rooms(n: usize, first: usize, second: usize) -> Verdict
+    ensures { result ≡ first_broken (room_tests n first second) }
+{
+    if first < n {
+        return Verdict::Broken(Rule::BufferTooShort, 0);
+    }
+    if second < n {
+        return Verdict::Broken(Rule::BufferTooShort, 1);
+    }
+    Verdict::Sound
 }

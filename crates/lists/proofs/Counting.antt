@@ -1,13 +1,13 @@
 -- Counts and least numbers. Assumes nothing.
 use Prim.Native.Nat.{ℕ, zero, suc, ◌+◌, ◌-◌, ◌*◌, ◌/◌, ◌<◌, ◌≤◌}
 use mathlib.Core.Path.{◌≡◌, refl, sym, ap, ap₂, ◌∙◌}
-use mathlib.Core.Bool.{Bool, true, false}
+use mathlib.Core.Bool.{Bool, true, false, ◌||◌}
 use native.Mathlib.Omega.{arith}
 use native.Mathlib.Nat.{add-zero, add-suc}
 use native.Mathlib.Numerals.{add-one}
 use native.Mathlib.Decide.{ℕ_discrete, dec_lt}
-use lib.Dec.{ltb}
-use borrow.Author.Tests.{lt-ltb, le-ltb, ltb-true, ltb-false}
+use lib.Dec.{ltb, eqb}
+use borrow.Author.Tests.{lt-ltb, le-ltb, ltb-true, ltb-false, eq-eqb, ne_eqb}
 use Rattle.lists.specs.Counting.{choose, count, least}
 use Rattle.lists.proofs.Tests.{choose-bit}
 
@@ -31,6 +31,17 @@ unfolding count
 count-shifted p q a b zero h = rw (add-zero a, add-zero b)
 count-shifted p q a b (suc n) h =
     rw (add-suc a n, add-suc b n, h n (omega arith)) (omega (arith, count-shifted p q a b n (λ i l. h i (omega arith))))
+
+-- one number that passes besides makes one more
+pub count-with : (q : ℕ → Bool) (k n : ℕ) → k < n → q k ≡ false → count (λ j. eqb k j || q j) n ≡ 1 + count q n
+unfolding count
+count-with q k zero h f = absurd (omega arith)
+count-with q k (suc n) h f = elim (ℕ_discrete k n) [
+  | yes z ↦
+      let before : count (λ j. eqb k j || q j) n ≡ count q n = count_same _ q n (λ j l. rw (ne_eqb k j (λ e. omega arith))) in
+      rw (before, eq-eqb k n z, ap q (sym z) ∙ f) (omega arith)
+  | no d ↦ rw (ne_eqb k n d, count-with q k n (omega arith) f) (omega arith)
+]
 
 -- where each number stands for two, twice as many pass
 pub count-pairs : (p : ℕ → Bool) (n : ℕ) → count (λ f. p (f / 2)) (2 * n) ≡ 2 * count p n

@@ -7,3 +7,4 @@ pub mod Stopped
 pub mod Readers
 pub mod Leads
 pub mod Examples
+pub mod Lengths

@@ -6,8 +6,10 @@ use native.Mathlib.Omega.{arith}
 use native.Mathlib.Decide.{ℕ_discrete}
 use lib.Dec.{eqb}
 use borrow.Author.Tests.{eq-eqb, ne_eqb}
+use Rattle.lists.specs.Counting.{count}
 use Rattle.lists.proofs.Tests.{or-true}
-use Rattle.value.specs.Values.{follow, walk}
+use Rattle.lists.proofs.Counting.{count_none, count-with}
+use Rattle.value.specs.Values.{follow, met_beyond, walked, walk}
 use Rattle.value.proofs.Walk.{Later, follow-same, enough, same_nodes}
 use Rattle.rules.specs.Rules.{beyond, meets}
 
@@ -106,6 +108,27 @@ pub meets-below : (t : ℕ → ℕ) (n : ℕ) → Later n t → (j : ℕ) → me
 unfolding meets
 meets-below t zero later j m = absurd (false≢true m)
 meets-below t (suc n) later j m = (meets-between t (suc n) later j (suc n) 0 (omega arith) m).1
+
+-- How many nodes are met: each once, since exits go to later nodes. So the walk has met as many as it took decisions.
+beyond-counted : (t : ℕ → ℕ) (n left e : ℕ) → ((l : ℕ) → e ≡ suc (suc l) → count (λ j. meets t j left l) n ≡ (walked t left l).decisions)
+    → count (λ j. beyond (meets t j left) e) n ≡ met_beyond (λ l. (walked t left l).decisions) e
+beyond-counted t n left zero h = count_none _ n (λ k l. refl)
+beyond-counted t n left (suc zero) h = count_none _ n (λ k l. refl)
+beyond-counted t n left (suc (suc l)) h = h l refl
+
+pub met-counted : (t : ℕ → ℕ) (n : ℕ) → Later n t → (left k : ℕ) → k < n → count (λ j. meets t j left k) n ≡ (walked t left k).decisions
+unfolding meets walked
+met-counted t n later zero k h = count_none _ n (λ j l. refl)
+met-counted t n later (suc left) k h =
+    count-with (λ j. beyond (meets t j left) (t k)) k n h (not-again (beyond (meets t k left) (t k)) refl)
+    ∙ ap (λ (m : ℕ). 1 + m) (beyond-counted t n left (t k) (λ l e. met-counted t n later left l (later k l h e).1))
+  where
+    not-again : (b : Bool) → beyond (meets t k left) (t k) ≡ b → b ≡ false
+    not-again false e = refl
+    not-again true e =
+        let (l, z, m) = beyond-inv (meets t k left) (t k) e in
+        let r = later k l h z in
+        absurd (omega (arith, r.0, (meets-between t n later k left l r.1 m).0))
 
 -- One node forced: u takes the exits of t, but at j.
 module _ (t u : ℕ → ℕ) (n j : ℕ) (later : Later n t) (off : (i : ℕ) → (i ≡ j → ⊥) → t i ≡ u i) where

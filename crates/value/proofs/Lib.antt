@@ -5,3 +5,5 @@ pub mod Settings
 pub mod Values
 pub mod Direct
 pub mod Run
+pub mod Walking
+pub mod Lengths

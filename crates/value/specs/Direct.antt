@@ -7,7 +7,7 @@ use Rattle.answers.specs.declared.Counts.{Counts}
 use Rattle.layout.specs.Layout.{first, is_input, size, reads, exits, inverts}
 use Rattle.testvectors.specs.Vectors.{bit}
 use Rattle.value.specs.Settings.{Setting}
-use Rattle.value.specs.Values.{walk}
+use Rattle.value.specs.Values.{walked, walk}
 
 module _ (ws : List ℕ) where
   -- every read of the card is direct: its bit 16 is clear
@@ -25,3 +25,8 @@ module _ (ws : List ℕ) where
   unfoldable pub direct_value : Counts → Setting → List ℕ → ℕ → ℕ
   unfolding direct_graph grow
   direct_value c s x g = at (grow (direct_graph c.nodes s x) c.graphs) g
+
+  -- and as `path_length`
+  unfoldable pub direct_length : Counts → Setting → List ℕ → ℕ → ℕ
+  unfolding direct_value walked
+  direct_length c s x g = choose (is_input ws g) 0 (walked (direct_taken s (direct_value c s x) g) (size ws g) 0).decisions

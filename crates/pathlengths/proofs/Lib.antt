@@ -1,0 +1,2 @@
+-- What the proofs of the lengths cite.
+pub mod Laws
