@@ -1,5 +1,5 @@
 -- The check of a card: document 01, 'Calls'. By words it answers the counts; in bytes they stand in a buffer. Assumes nothing.
-use Rattle.std.specs.Prelude.{ℕ, List, [], ◌∷◌, ltb}
+use Rattle.std.specs.Prelude.{ℕ, [], ◌∷◌, ltb}
 use Rattle.answers.specs.declared.Rule.TheVariants.{BufferTooShort}
 use Rattle.answers.specs.declared.Counts.{Counts}
 use Rattle.answers.specs.Answers.{values_of}

@@ -13,7 +13,6 @@ use Rattle.answers.specs.declared.Counts.{Counts}
 use Rattle.answers.specs.Tests.{first_broken}
 use Rattle.value.specs.Settings.{faulty}
 use Rattle.faultlist.specs.Faults.{too_high, at_site, site_twice, fault_tests}
-use Rattle.faultlist.specs.Together.{Together}
 use Rattle.faultlist.proofs.Together.{faulty-together, together-one}
 
 -- whether a number is too high, and whether one is of a site

@@ -1,7 +1,7 @@
 -- The position of a check's refusal is below 2 ^ 32: so it stands beside the rule's number in 64 bits, and can be counted on from another card's words.
 -- Assumes nothing.
-use Prim.Native.Nat.{ℕ, zero, suc, ◌+◌, ◌*◌, ◌<◌, ◌≤◌}
-use mathlib.Core.Path.{◌≡◌, refl}
+use Prim.Native.Nat.{ℕ, zero, suc, ◌+◌, ◌*◌, ◌≤◌}
+use mathlib.Core.Path.{◌≡◌}
 use mathlib.Core.List.{List, [], ◌∷◌}
 use mathlib.Core.Bool.{Bool, true, false, not, ◌||◌}
 use native.Mathlib.Omega.{arith}
@@ -12,11 +12,9 @@ use Rattle.word32.specs.Fields.{kind, read_spare, exits_spare, node_count, read_
 use Rattle.answers.specs.declared.Rule.{Rule}
 use Rattle.answers.specs.declared.Rule.TheVariants.{TooManyGraphs, WordNotDue, StrayBit, ReadNotBelow, ExitNotLater, NodeNotNamed, NothingObservable}
 use Rattle.answers.specs.declared.Counts.{Counts}
-use Rattle.answers.specs.declared.Verdict.{Verdict}
-use Rattle.answers.specs.declared.Verdict.TheVariants.{Sound, Broken}
 use Rattle.answers.specs.declared.Answer.{Answer}
 use Rattle.answers.specs.declared.Answer.TheVariants.{Accepted, Refused}
-use Rattle.answers.specs.Tests.{Test, test, unless, first_broken, and_then, onward}
+use Rattle.answers.specs.Tests.{test, unless, first_broken}
 use Rattle.answers.proofs.Tests.{all-passed}
 use Rattle.answers.proofs.Positions.{Low, LowAnswer, unless-low, tests-low, then-low, onward-low}
 use Rattle.form.specs.Check.{due_tests, either, counts, card_length, with_graph, input_tests, output_tests, word, misplaced, header_verdict, read_verdict, exits_verdict, node_verdict, nodes_verdict, unnamed, graph_verdict, rest, long_tests, checked_with}

@@ -1,19 +1,17 @@
 -- A list of vectors lent by words or in bytes, and the form of what is lent. Assumes nothing.
-use Prim.Native.Nat.{ℕ, ◌-◌, ◌*◌, ◌/◌, ◌%◌, ◌<◌, ◌≤◌}
+use Prim.Native.Nat.{ℕ, ◌/◌, ◌<◌, ◌≤◌}
 use mathlib.Core.Path.{◌≡◌, refl, sym, ap, ◌∙◌}
 use mathlib.Core.List.{List, [], ◌∷◌}
 use native.Mathlib.Omega.{arith}
-use lib.ListN.{length, get_or, take, drop}
-use lib.Seq.{length-take-le, get_or-take, get_or-drop, ext_get_or}
+use lib.ListN.{length, get_or}
 use borrow.Author.Tests.{lt-ltb, le-ltb}
 use Rattle.lists.specs.Tables.{grow}
 use Rattle.lists.proofs.Tables.{length-tab, tab-at}
 use Rattle.word32.specs.Bytes.{word_at, words_of}
-use Rattle.answers.specs.declared.Rule.{Rule}
 use Rattle.answers.specs.declared.Rule.TheVariants.{VectorForm}
 use Rattle.answers.specs.declared.Verdict.{Verdict}
-use Rattle.answers.specs.declared.Verdict.TheVariants.{Sound, Broken}
-use Rattle.answers.specs.Calls.{Lent, lent}
+use Rattle.answers.specs.declared.Verdict.TheVariants.{Broken}
+use Rattle.answers.specs.Calls.{Lent}
 use Rattle.testvectors.specs.Vectors.{lent_form}
 use Rattle.testvectors.specs.Lists.{list_words}
 

@@ -1,4 +1,3 @@
-use Prim.Native.Nat.{◌-◌}
 use native.Mathlib.Omega.{arith}
 use Rattle.bitset.proofs.Bits.{clear_none, clear-more}
 use Rattle.bitset.proofs.clear.Goals as goal

@@ -1,4 +1,3 @@
-use Prim.Native.Nat.{◌-◌}
 use native.Mathlib.Omega.{arith}
 use Rattle.bitset.proofs.Bits.{merge_none, merge-more}
 use Rattle.bitset.proofs.merge.Goals as goal

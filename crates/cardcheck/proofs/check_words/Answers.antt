@@ -1,7 +1,5 @@
-use Rattle.std.proofs.Common.{◌≡◌, ◌-◌, arith, refl, sym, ap, ◌∙◌}
-use Rattle.reader.specs.Due.{due_at, after_at}
-use Rattle.nodecheck.specs.Table.{NodesTold}
-use Rattle.cardcheck.proofs.Graphs.{begin, few, here, may-open, over-now, few-nodes, next-at, over-then, onward, nearer}
+use Rattle.std.proofs.Common.{arith, refl, ap, ◌∙◌}
+use Rattle.cardcheck.proofs.Graphs.{begin, few, here, may-open, few-nodes, next-at, over-then, onward, nearer}
 use Rattle.cardcheck.proofs.check_words.Goals as goal
 
 pub loop-answer-init : goal.loop-answer-init

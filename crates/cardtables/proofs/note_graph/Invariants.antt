@@ -2,7 +2,6 @@
 use Prim.Native.Nat.{ℕ, ◌≤◌, ◌+◌, ◌-◌}
 use mathlib.Core.Path.{◌≡◌}
 use lib.ListN.{length}
-use Rattle.layout.specs.Layout.{first}
 use Rattle.cardtables.specs.Tables.{ReadIn, Noted}
 use Rattle.cardtables.proofs.note_graph.Given as goal
 

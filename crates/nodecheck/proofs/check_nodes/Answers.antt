@@ -1,5 +1,4 @@
-use Rattle.std.proofs.Common.{◌≡◌, ℕ, ◌-◌, List, arith, refl, sym, ap, ◌∙◌}
-use Rattle.reader.specs.Due.{due_at, after_at}
+use Rattle.std.proofs.Common.{arith, refl, ◌∙◌}
 use Rattle.nodecheck.proofs.Nodes.{begin, finished, bad-read, bad-exits, onward}
 use Rattle.nodecheck.proofs.check_nodes.Goals as goal
 
