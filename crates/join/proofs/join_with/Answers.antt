@@ -16,12 +16,11 @@ overflow_add-at c =
     omega (arith, check-position a.b.now a.left e, x.long, x.shape.few-graphs, x.shape.few-nodes)
 
 pub join_accepted-requires : goal.join_accepted-requires
-join_accepted-requires c =
-    (
-      check-accepts _ _ _ (sym c.check_with.ensures ∙ c.in-Accepted.is),
-      check-accepts _ _ _ (sym c.check_with-in-Accepted.ensures ∙ c.in-Accepted-check_with.is),
-      c.requires,
-    )
+join_accepted-requires c = (
+  check-accepts _ _ _ (sym c.check_with.ensures ∙ c.in-Accepted.is),
+  check-accepts _ _ _ (sym c.check_with-in-Accepted.ensures ∙ c.in-Accepted-check_with.is),
+  c.requires,
+)
 
 pub returns-in-Refused : goal.returns-in-Refused
 returns-in-Refused c = rw c.refused.ensures (first_stops _ _ _ _ (sym c.check_with.ensures ∙ c.in-Refused.is))
