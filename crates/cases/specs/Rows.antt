@@ -1,6 +1,6 @@
 -- What a row of a table of cases says: what the calls give, by the definitions that their contracts cite; and for a case and a grading, that the marking
 -- rules of document 01 give the same. Assumes nothing.
-use Rattle.std.specs.Prelude.{ℕ, ◌+◌, ◌-◌, ◌*◌, ◌/◌, ◌%◌, ◌≡◌, List, [], ◌∷◌, map, Bool, not, ◌&&◌, ◌||◌, length, ltb, leb, eqb}
+use Rattle.std.specs.Prelude.{ℕ, ◌+◌, ◌-◌, ◌*◌, ◌/◌, ◌%◌, ◌≡◌, List, [], map, Bool, not, ◌&&◌, ◌||◌, length, ltb, leb, eqb}
 use Rattle.lists.specs.Counting.{choose}
 use Rattle.lists.specs.Tables.{at, tab, chosen}
 use Rattle.answers.specs.declared.Counts.{Counts}

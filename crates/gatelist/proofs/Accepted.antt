@@ -22,7 +22,6 @@ use Rattle.form.proofs.Sound.{up_to, sound-accepted}
 use Rattle.form.proofs.Verdicts.{Read, exits_tests}
 use Rattle.form.proofs.Graphs.{Output, read_place, exits_at, due-sound, output-sound, input-sound}
 use Rattle.gatelist.specs.Lines.{input_line, observable_line, function, leads, lead_word, named_line}
-use Rattle.gatelist.specs.Lines as lines
 use Rattle.gatelist.specs.Drawn.{controlling, constant, gate_exit, drawn}
 use Rattle.gatelist.specs.AcceptsGates.{Gate, AcceptsGates}
 use Rattle.gatelist.proofs.Lines.{lead-next, lead-few, card-long}

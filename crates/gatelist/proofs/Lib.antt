@@ -4,6 +4,7 @@ pub mod Lines
 pub mod Sound
 pub mod Walk
 pub mod Written
+pub mod Leads
 pub mod Accepted
 pub mod Readers
 pub mod Values

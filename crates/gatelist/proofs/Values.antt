@@ -4,11 +4,8 @@ use Prim.Native.Nat.{ℕ, ◌+◌, ◌<◌}
 use mathlib.Core.Path.{◌≡◌, refl, sym, ap, ◌∙◌}
 use mathlib.Core.List.{List}
 use mathlib.Core.Bool.{Bool, true, false}
-use native.Mathlib.Omega.{arith}
-use lib.Dec.{eqb}
 use Rattle.lists.specs.Counting.{choose}
 use Rattle.lists.proofs.Net.{Lower, Same, unique, grow-solves}
-use Rattle.lists.proofs.Tests.{some_same}
 use Rattle.answers.specs.declared.Counts.{Counts}
 use Rattle.layout.specs.Layout.{size, decision}
 use Rattle.layout.specs.Shape.{Shape}
@@ -18,21 +15,14 @@ use Rattle.value.specs.Settings.{Setting, Keeps}
 use Rattle.value.specs.Values.{walk, taken, graph, value}
 use Rattle.value.proofs.Values.{value-solves, value-bit}
 use Rattle.value.proofs.Direct.{decision-direct}
-use Rattle.gatelist.specs.Lines.{first_lead, input_line, function, leads, named_line}
-use Rattle.gatelist.specs.Gates.{and_of, or_of, gate, lead_value, line, line_value}
+use Rattle.gatelist.specs.Lines.{input_line, function, leads, named_line}
+use Rattle.gatelist.specs.Gates.{gate, lead_value, line, line_value}
 use Rattle.gatelist.specs.Drawn.{gate_exit, drawn}
 use Rattle.gatelist.specs.AcceptsGates.{Gate, AcceptsGates}
 use Rattle.gatelist.proofs.Walk.{gate-right, walk-decided, gate-decided}
+use Rattle.gatelist.proofs.Leads.{line-by, lead-bit}
 use Rattle.gatelist.proofs.Written.{size_is, exit-is, graph-of}
 use Rattle.gatelist.proofs.Accepted.{drawn-accepted, drawn-direct}
-
--- a gate's value goes by the values of its leads
-gate_same : (f n : ℕ) (d e : ℕ → ℕ) → 0 < n → ((k : ℕ) → k < n → d k ≡ e k) → gate f n d ≡ gate f n e
-unfolding gate
-gate_same f n d e l same =
-    let a : and_of n d ≡ and_of n e = ap (λ (b : Bool). choose b 0 1) (some_same (λ k. eqb (d k) 0) (λ k. eqb (e k) 0) n (λ k h. rw (same k h))) in
-    let o : or_of n d ≡ or_of n e = ap (λ (b : Bool). choose b 1 0) (some_same (λ k. eqb (d k) 1) (λ k. eqb (e k) 1) n (λ k h. rw (same k h))) in
-    rw (a, o, same 0 l)
 
 module _ {gs : List ℕ} {c : Counts} (a : AcceptsGates gs c) where
   abbrev card : List ℕ
@@ -42,38 +32,25 @@ module _ {gs : List ℕ} {c : Counts} (a : AcceptsGates gs c) where
   shape = (check-accepts card 0 c (drawn-accepted a)).shape
 
   module _ (s : Setting) (x : List ℕ) where
-    -- what a line gives goes by earlier lines alone
-    line-by : (v w : ℕ → ℕ) (l : ℕ) → l < c.graphs → ((h : ℕ) → h < l → v h ≡ w h) → (b : Bool) → input_line gs l ≡ b
-        → choose b (bit x l) (gate (function gs l) (leads gs l) (lead_value gs s v l))
-        ≡ choose b (bit x l) (gate (function gs l) (leads gs l) (lead_value gs s w l))
-    line-by v w l h same true z = refl
-    line-by v w l h same false z =
-        let g = a.gate l h z in
-        gate_same (function gs l) (leads gs l) (lead_value gs s v l) (lead_value gs s w l) (gate-right (function gs l) (leads gs l) g.right).1
-        (λ k m. ap (s (first_lead gs l + k)) (same (named_line gs l k) (g.earlier k m)))
-
     line-lower : Lower c.graphs (line gs c.nodes s x)
     unfolding line
-    line-lower v w l h same = ap (s (c.nodes + l)) (line-by v w l h same (input_line gs l) refl)
+    line-lower v w l h same = ap (s (c.nodes + l)) (line-by a s x v w l h same (input_line gs l) refl)
 
     -- A GATE'S GRAPH GIVES THE GATE'S VALUE where the lines have bits
     module _ (keeps : Keeps s) (v : ℕ → ℕ) (bits : (l : ℕ) → l < c.graphs → v l < 2) (l : ℕ) (h : l < c.graphs) where
       module _ (g : Gate gs l) where
-        lead-bit : (k : ℕ) → k < leads gs l → lead_value gs s v l k < 2
-        lead-bit k m = keeps (first_lead gs l + k) (v (named_line gs l k)) (bits (named_line gs l k) (omega (arith, g.earlier k m)))
-
         takes : (k : ℕ) → k < leads gs l → taken card s v l k ≡ gate_exit (function gs l) (leads gs l) k (lead_value gs s v l k)
         takes k m =
             let o = graph-of a l h in
             let d : decision card v l k ≡ v (named_line gs l k) =
             decision-direct shape (drawn-direct a) v l k h (rw o.many m) ∙ ap v (o.read k m) in
-            rw (o.start, d) (exit-is a l h k m (lead_value gs s v l k) (lead-bit k m))
+            rw (o.start, d) (exit-is a l h k m (lead_value gs s v l k) (lead-bit g keeps v c.graphs bits h k m))
 
         walk-gate : walk (taken card s v l) (leads gs l) 0 ≡ gate (function gs l) (leads gs l) (lead_value gs s v l)
         walk-gate =
-            walk-decided (function gs l) (leads gs l) (lead_value gs s v l) (taken card s v l) lead-bit takes
+            walk-decided (function gs l) (leads gs l) (lead_value gs s v l) (taken card s v l) (lead-bit g keeps v c.graphs bits h) takes
             (gate-right (function gs l) (leads gs l) g.right).1
-            ∙ sym (gate-decided (function gs l) (leads gs l) (lead_value gs s v l) g.right lead-bit)
+            ∙ sym (gate-decided (function gs l) (leads gs l) (lead_value gs s v l) g.right (lead-bit g keeps v c.graphs bits h))
 
       by : (b : Bool) → input_line gs l ≡ b
           → choose b (bit x l) (walk (taken card s v l) (size card l) 0) ≡ choose b (bit x l) (gate (function gs l) (leads gs l) (lead_value gs s v l))

@@ -79,6 +79,7 @@ pub fn grade_list(
 }
 
 // The tests of a grading after the form of its list, for buffers of so many words: room for the marks, and then for the tallies.
+#[tactic(auto, unfolding(crate::specs::Calls::grade_tests))]
 fn test_grade(c: Counts, marks: usize, tallies: usize) -> Verdict
     ensures { result ≡ first_broken (grade_tests marks tallies c) }
 {

@@ -1,7 +1,6 @@
 -- FROM THE CALL TO ITS MEANING: where a call with faults is done, its words are the values with all faults of the list holding together. Assumes nothing.
 use Prim.Native.Nat.{ℕ}
 use mathlib.Core.Path.{◌≡◌, sym, ap, ◌∙◌}
-use mathlib.Core.List.{List}
 use Rattle.lists.specs.Tables.{tab}
 use Rattle.answers.specs.declared.Reply.TheVariants as reply
 use Rattle.answers.proofs.Calls.{call-went}

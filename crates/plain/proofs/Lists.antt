@@ -13,7 +13,7 @@ use Rattle.value.proofs.Settings.{faulty-none, faulty-one}
 use Rattle.faultlist.specs.Faults.{fault_tests}
 use Rattle.faultlist.proofs.Tested.{faults-apart}
 use Rattle.faultlist.proofs.Order.{tests_order, faulty-order}
-use Rattle.answers.specs.Calls.{Lent, lent, whole, Outcome, outcome_by}
+use Rattle.answers.specs.Calls.{Lent, lent, whole, outcome_by}
 use Rattle.answers.proofs.Calls.{outcome-same}
 use Rattle.opening.specs.Opened.{opened_vector}
 use Rattle.plain.specs.Calls.{values_work, values_outcome, good_tests, good_outcome, fault_outcome}

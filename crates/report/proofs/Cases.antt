@@ -1,9 +1,8 @@
 -- The cases of the text, and what the grading tells of it. Assumes nothing.
 use Prim.Native.Nat.{ℕ, suc, zero, ◌+◌, ◌-◌, ◌*◌, ◌/◌, ◌%◌, ◌<◌, ◌≤◌}
 use mathlib.Core.Path.{◌≡◌, refl, sym, ap, ap₂, ◌∙◌}
-use mathlib.Core.List.{List, [], ◌++◌}
+use mathlib.Core.List.{List, []}
 use native.Mathlib.Omega.{arith}
-use native.Mathlib.Numerals.{add-one}
 use native.Mathlib.Decide.{dec_lt}
 use lib.ListN.{length, get_or, take, drop, length-drop}
 use lib.Seq.{get_or-take, length-take-le, take_all}
@@ -30,7 +29,7 @@ use Rattle.testvectors.proofs.Lists.{bytes-alone}
 use Rattle.opening.specs.Opened.{opened_list}
 use Rattle.detect.specs.Grading.{mark, tally, marked}
 use Rattle.grade.specs.Graded.{GradedList}
-use Rattle.textlines.specs.Text.{short_line, long_line, refused_line, fault_line, fault_lines, grading_text}
+use Rattle.textlines.specs.Text.{short_line, long_line, refused_line, fault_lines, grading_text}
 use Rattle.report.specs.Report.{unless_broken, if_accepted, graded_text, word_count, card_bytes, vector_bytes, text_of, bytes_wanted}
 
 -- THE TEXT by its cases

@@ -1,14 +1,14 @@
 -- Rules 1 and 2 by laws, and that a change list is what one held graph alters. Assumes nothing.
 use Prim.Native.Nat.{ℕ, zero, suc, ◌+◌, ◌-◌, ◌<◌, ◌≤◌}
-use mathlib.Core.Path.{◌≡◌, refl, sym, ap, ap₂, ◌∙◌}
+use mathlib.Core.Path.{◌≡◌, refl, sym, ap, ◌∙◌}
 use mathlib.Core.List.{List}
-use mathlib.Core.Bool.{Bool, true, false, not, ◌&&◌, ◌||◌, false≢true, or-false}
+use mathlib.Core.Bool.{Bool, true, false, ◌||◌, false≢true, or-false}
 use native.Mathlib.Omega.{arith}
 use lib.Dec.{eqb}
 use borrow.Author.Tests.{eq-eqb, ne_eqb}
 use Rattle.lists.specs.Counting.{choose}
 use Rattle.lists.specs.Tables.{Net, at, grow}
-use Rattle.lists.proofs.Tests.{and-differ, agree, choose-bit, some_same, none_has}
+use Rattle.lists.proofs.Tests.{and-differ, agree, choose-bit, none_has}
 use Rattle.lists.proofs.Net.{Lower, Solves, Same, unique, grow-more, grow-solves, held, held-here, held-off, held-lower, held-solves, held_below, one-held, none-altered}
 use Rattle.answers.specs.declared.Counts.{Counts}
 use Rattle.layout.specs.Layout.{is_input, size, reads, exits, decides}
@@ -20,6 +20,7 @@ use Rattle.value.proofs.Settings.{good-keeps}
 use Rattle.value.proofs.Values.{Spares, taken-later, graph-lower, value-solves, graph-bit, value-bit, graph-spared}
 use Rattle.detect.specs.Detects.{good_value}
 use Rattle.rules.specs.Rules.{beyond, meets, active, touched, rewalk, flipped, listed}
+use Rattle.rules.proofs.Rewalk.{rewalk-lower}
 use Rattle.rules.proofs.Meets.{meets-law, meets-self, meets-onward, meets-from, meets-below, same-walk}
 
 module _ {ws : List ℕ} {c : Counts} (a : Shape ws c) (x : List ℕ) where
@@ -85,18 +86,9 @@ module _ {ws : List ℕ} {c : Counts} (a : Shape ws c) (x : List ℕ) where
       let i = meets-below (t h) (size ws h) (taken-later a good x v h l) j m in
       ap (λ (r : ℕ). exits ws h j (decides ws h j r)) (sym (and-differ (active ws c x h j) (w (reads ws h j)) (v (reads ws h j)) (none_has _ (size ws h) e j i) m))))
 
-  pub touched-same : (u w : ℕ → ℕ) (h : ℕ) → h < c.graphs → Same h u w → touched ws c x u h ≡ touched ws c x w h
-  unfolding touched
-  touched-same u w h l same = some_same _ _ (size ws h) (λ k i.
-      ap (λ (r : ℕ). active ws c x h k && not (eqb r (v (reads ws h k)))) (same (reads ws h k) (a.reads-lower h l k i)))
-
-  pub rewalk-lower : (g : ℕ) → Lower c.graphs (rewalk ws c x g)
-  rewalk-lower g u w h l same =
-      ap₂ (λ (p : Bool) (q : ℕ). choose (eqb h g) (1 - v g) (choose p q (v h))) (touched-same u w h l same) (good-lower u w h l same)
-
   pub flipped-step : (g : ℕ) → Solves c.graphs (rewalk ws c x g) (flipped ws c x g)
   unfolding flipped
-  flipped-step g = grow-solves (rewalk ws c x g) c.graphs (rewalk-lower g)
+  flipped-step g = grow-solves (rewalk ws c x g) c.graphs (rewalk-lower a x g)
 
   -- a walk that has come to graph m has the running values below m
   pub flipped-so-far : (g m h : ℕ) → m ≤ c.graphs → h < m → at (grow (rewalk ws c x g) m) h ≡ flipped ws c x g h

@@ -1,5 +1,6 @@
 -- The laws that proofs of functions and of other laws cite, each stated once, and worked examples.
 pub mod Meets
+pub mod Rewalk
 pub mod Changes
 pub mod Faults
 pub mod ByRules

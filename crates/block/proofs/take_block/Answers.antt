@@ -1,10 +1,8 @@
-use Prim.Native.Nat.{◌-◌}
 use Rattle.block.proofs.InGrade.{words_long, words_are}
 use Rattle.block.proofs.Updated.{all-sites, took-none, took_more}
 use Rattle.running.proofs.Fold.{counted-as}
 use Rattle.testvectors.proofs.Laws.{vector-inside, vector-width}
 use Rattle.testvectors.specs.Vectors.{vectors}
-use borrow.Author.Rules.{rules}
 use mathlib.Core.Path.{◌≡◌, refl, sym}
 use native.Mathlib.Omega.{arith}
 use Rattle.block.proofs.take_block.Goals as goal

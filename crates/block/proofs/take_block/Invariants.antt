@@ -2,7 +2,6 @@
 -- The invariant: the vectors of the block below i are taken in.
 use Prim.Native.Nat.{◌-◌, ◌≤◌}
 use Rattle.block.specs.Block.{TookIn}
-use Rattle.testvectors.specs.Vectors.{vectors}
 use lib.ListN.{length}
 use mathlib.Core.Path.{◌≡◌}
 use Rattle.block.proofs.take_block.Given as goal

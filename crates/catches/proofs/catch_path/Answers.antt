@@ -1,6 +1,4 @@
-use Prim.Native.Nat.{◌-◌}
 use mathlib.Core.Path.{refl}
-use mathlib.Core.Bool.{true}
 use native.Mathlib.Omega.{arith}
 use Rattle.layout.proofs.NodeNumbers.{walkable, node-inside, read_below, node-number-below, exit-later, exit_below}
 use Rattle.catches.proofs.ActivePath.{path-first}

@@ -1,6 +1,6 @@
 -- `catches::catch_vector` meets its contract. The invariant: the graphs from g on and their nodes are told, and the buffer of walks has the good values.
 -- Assumes nothing.
-use Prim.Native.Nat.{◌-◌, ◌≤◌}
+use Prim.Native.Nat.{◌≤◌}
 use mathlib.Core.Path.{◌≡◌}
 use lib.ListN.{length}
 use Rattle.catches.specs.Good.{Caught}

@@ -1,4 +1,3 @@
-use Prim.Native.Nat.{◌-◌}
 use native.Mathlib.Omega.{arith}
 use Rattle.change.proofs.Laws.{flip-starts, flip-ends}
 use borrow.Author.Rules.{rules}

@@ -1,4 +1,3 @@
-use Prim.Native.Nat.{◌-◌}
 use mathlib.Core.Path.{refl, sym, ◌∙◌}
 use native.Mathlib.Omega.{arith}
 use Rattle.gatecheck.proofs.Turns.{reading-start, few-lines, reading-over, reading-stop, reading-next}

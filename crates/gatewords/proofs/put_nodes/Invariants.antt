@@ -1,5 +1,5 @@
 -- `gatewords::put_nodes` meets its contract. The invariant: the words of k nodes follow the buffer's first words. Assumes nothing.
-use Prim.Native.Nat.{◌≤◌, ◌+◌, ◌-◌}
+use Prim.Native.Nat.{◌≤◌, ◌-◌}
 use mathlib.Core.Path.{◌≡◌}
 use mathlib.Core.List.{◌++◌}
 use lib.ListN.{length, take}

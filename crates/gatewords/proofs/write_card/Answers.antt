@@ -1,4 +1,3 @@
-use Prim.Native.Nat.{◌-◌}
 use Rattle.gatewords.proofs.Written.{drawing-start, line-asks, line-drawn, all-drawn}
 use Rattle.gatewords.proofs.write_card.Goals as goal
 

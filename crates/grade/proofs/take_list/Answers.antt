@@ -1,4 +1,3 @@
-use Prim.Native.Nat.{◌-◌}
 use Rattle.grade.proofs.Graded.{list-ends, list-fits, list-part, block_of, block-number, graded-block, graded-last}
 use Rattle.testvectors.proofs.Laws.{width_some}
 use lib.Seq.{length-take-le}

@@ -1,9 +1,7 @@
 use mathlib.Core.Path.{◌≡◌, refl, sym}
-use Prim.Native.Nat.{◌-◌}
 use native.Mathlib.Omega.{arith}
 use lib.ListN.{length-set}
 use Rattle.lists.proofs.Tables.{over_none, over-store}
-use Rattle.word32.specs.Bytes.{word_at}
 use Rattle.inbytes.proofs.Laws.{words-read}
 use Rattle.inbytes.proofs.read_words.Goals as goal
 

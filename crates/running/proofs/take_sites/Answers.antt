@@ -1,4 +1,4 @@
-use Prim.Native.Nat.{◌-◌, ◌*◌}
+use Prim.Native.Nat.{◌*◌}
 use Rattle.running.proofs.Fold.{found-more, found-few, tallies-rest, folded-none, folded_more}
 use Rattle.running.specs.Running.{in_grade_by}
 use mathlib.Core.Path.{◌≡◌, refl}

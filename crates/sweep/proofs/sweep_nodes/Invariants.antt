@@ -1,6 +1,6 @@
 -- `sweep::sweep_nodes` meets its contract. The invariant: under each vector whose lower graphs were done, the nodes from k on have their values.
 -- Assumes nothing.
-use Prim.Native.Nat.{ℕ, ◌≤◌, ◌-◌}
+use Prim.Native.Nat.{ℕ, ◌≤◌}
 use mathlib.Core.Path.{◌≡◌}
 use mathlib.Core.List.{List}
 use lib.ListN.{length}

@@ -1,11 +1,7 @@
-use Prim.Native.Nat.{◌-◌}
 use mathlib.Core.Path.{sym, ◌∙◌}
 use native.Mathlib.Omega.{arith}
 use Rattle.value.proofs.Settings.{faults-over, faults-hit, faults-next}
 use Rattle.value.proofs.set_at.Goals as goal
-
-pub overflow_cast-f : goal.overflow_cast-f
-overflow_cast-f c = omega (arith, c.shared_slice_known-1.given c.loop-i.i)
 
 pub returns-then-f-site : goal.returns-then-f-site
 returns-then-f-site c =
