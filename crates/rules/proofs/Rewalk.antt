@@ -1,8 +1,8 @@
 -- What a graph gives in a change walk goes by lower graphs alone. Assumes nothing.
 use Prim.Native.Nat.{ℕ, ◌-◌, ◌<◌}
-use mathlib.Core.Path.{◌≡◌, ap, ap₂}
+use mathlib.Core.Path.{◌≡◌, ap₂}
 use mathlib.Core.List.{List}
-use mathlib.Core.Bool.{Bool, not, ◌&&◌}
+use mathlib.Core.Bool.{Bool}
 use lib.Dec.{eqb}
 use Rattle.lists.specs.Counting.{choose}
 use Rattle.lists.proofs.Tests.{some_same}
@@ -14,7 +14,7 @@ use Rattle.value.specs.Settings.{good}
 use Rattle.value.specs.Values.{graph}
 use Rattle.value.proofs.Values.{graph-lower}
 use Rattle.detect.specs.Detects.{good_value}
-use Rattle.rules.specs.Rules.{active, touched, rewalk}
+use Rattle.rules.specs.Rules.{touched, rewalk}
 
 module _ {ws : List ℕ} {c : Counts} (a : Shape ws c) (x : List ℕ) where
   abbrev v : ℕ → ℕ
@@ -25,8 +25,7 @@ module _ {ws : List ℕ} {c : Counts} (a : Shape ws c) (x : List ℕ) where
 
   pub touched-same : (u w : ℕ → ℕ) (h : ℕ) → h < c.graphs → Same h u w → touched ws c x u h ≡ touched ws c x w h
   unfolding touched
-  touched-same u w h l same = some_same _ _ (size ws h) (λ k i.
-      ap (λ (r : ℕ). active ws c x h k && not (eqb r (v (reads ws h k)))) (same (reads ws h k) (a.reads-lower h l k i)))
+  touched-same u w h l same = some_same _ _ (size ws h) (λ k i. rw (same (reads ws h k) (a.reads-lower h l k i)))
 
   pub rewalk-lower : (g : ℕ) → Lower c.graphs (rewalk ws c x g)
   rewalk-lower g u w h l same =
