@@ -1,15 +1,11 @@
 -- EVERY CALL is defined once, whether it is made by words or in bytes: what is lent to it gives its reply and the words that go to its buffers. And what
 -- a call by words promises of that. Assumes nothing.
-use Rattle.std.specs.Prelude.{ℕ, ◌≡◌, List, [], length}
+use Rattle.std.specs.Prelude.{ℕ, ◌≡◌, List, [], length, Ok, Err}
 use Rattle.lists.specs.Tables.{front}
-use Rattle.answers.specs.declared.Rule.{Rule}
+use Rattle.answers.specs.declared.Refusal.{Refusal}
 use Rattle.answers.specs.declared.Counts.{Counts}
-use Rattle.answers.specs.declared.Verdict.{Verdict}
-use Rattle.answers.specs.declared.Verdict.TheVariants.{Sound, Broken}
-use Rattle.answers.specs.declared.Answer.{Answer}
-use Rattle.answers.specs.declared.Answer.TheVariants as answer
-use Rattle.answers.specs.declared.Reply.{Reply}
-use Rattle.answers.specs.declared.Reply.TheVariants as reply
+use Rattle.answers.specs.declared.Lent as code
+use Rattle.answers.specs.Answers.{Verdict, Answer, Reply}
 use Rattle.answers.specs.Tests.{Test, first_broken, onward}
 
 -- WHAT IS LENT: whole words, and so many bytes after them that make no word; by words there are none
@@ -19,6 +15,10 @@ pub record Lent : Type 0 where
 
 abbrev pub lent : List ℕ → ℕ → Lent
 lent ws extra = record { words = ws; extra = extra }
+
+-- what a struct of the code lends
+abbrev pub lends : code.Lent → Lent
+lends l = lent l.words.now l.extra
 
 abbrev pub whole : List ℕ → Lent
 whole ws = lent ws 0
@@ -30,8 +30,8 @@ pub record Outcome : Type 0 where
   pub more : List ℕ
 
 -- a refusal writes nothing
-abbrev pub refused_by : Rule → ℕ → Outcome
-refused_by r p = record { reply = reply.Refused r p; words = []; more = [] }
+abbrev pub refused_by : Refusal → Outcome
+refused_by r = record { reply = Err r; words = []; more = [] }
 
 -- what a call does with what was accepted: its own tests, in their order, and where none is broken its number and its words
 pub record Work : Type 0 where
@@ -44,18 +44,18 @@ abbrev pub work : List Test → ℕ → List ℕ → Work
 work tests number words = record { tests = tests; number = number; words = words; more = [] }
 
 abbrev pub outcome_by : Verdict → Work → Outcome
-outcome_by Sound w = record { reply = reply.Done w.number; words = w.words; more = w.more }
-outcome_by (Broken r p) w = refused_by r p
+outcome_by (Ok tt) w = record { reply = Ok w.number; words = w.words; more = w.more }
+outcome_by (Err r) w = refused_by r
 
 -- HOW A CALL OPENS: the check of its card, and then the form of its vectors
 abbrev pub opened : Answer → (Counts → Verdict) → Answer
-opened (answer.Accepted c) form = onward (form c) (answer.Accepted c)
-opened (answer.Refused r p) form = answer.Refused r p
+opened (Ok c) form = onward (form c) (Ok c)
+opened (Err r) form = Err r
 
 -- what follows where something is accepted; a refusal ends the call
 unfoldable pub following : Answer → (Counts → Outcome) → Outcome
-following (answer.Accepted c) f = f c
-following (answer.Refused r p) f = refused_by r p
+following (Ok c) f = f c
+following (Err r) f = refused_by r
 
 -- THE OUTCOME of a call, from how it opens and its work on what was accepted
 unfoldable pub outcome : Answer → (Counts → Work) → Outcome

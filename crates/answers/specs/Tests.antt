@@ -1,11 +1,8 @@
 -- Tests in document 01's order, of which the first broken one counts. Assumes nothing.
-use Rattle.std.specs.Prelude.{ℕ, List, [], ◌∷◌, Bool, true, false, ltb}
+use Rattle.std.specs.Prelude.{ℕ, List, [], ◌∷◌, Bool, true, false, ltb, Ok, Err}
 use Rattle.answers.specs.declared.Rule.{Rule}
 use Rattle.answers.specs.declared.Rule.TheVariants.{BufferTooShort}
-use Rattle.answers.specs.declared.Verdict.{Verdict}
-use Rattle.answers.specs.declared.Verdict.TheVariants.{Sound, Broken}
-use Rattle.answers.specs.declared.Answer.{Answer}
-use Rattle.answers.specs.declared.Answer.TheVariants.{Refused}
+use Rattle.answers.specs.Answers.{Verdict, Answer, refused}
 
 -- a rule in its place: where `broken` holds, the card is refused by `rule` at `position`
 pub record Test : Type 0 where
@@ -22,17 +19,17 @@ unless true a b = a
 unless false a b = b
 
 abbrev pub first_broken : List Test → Verdict
-first_broken [] = Sound
-first_broken (t ∷ ts) = unless t.broken (Broken t.rule t.position) (first_broken ts)
+first_broken [] = Ok tt
+first_broken (t ∷ ts) = unless t.broken (Err (refused t.rule t.position)) (first_broken ts)
 
 -- a verdict, and where it is sound, another; or an answer
 abbrev pub and_then : Verdict → Verdict → Verdict
-and_then Sound v = v
-and_then (Broken r p) v = Broken r p
+and_then (Ok tt) v = v
+and_then (Err r) v = Err r
 
 abbrev pub onward : Verdict → Answer → Answer
-onward Sound a = a
-onward (Broken r p) a = Refused r p
+onward (Ok tt) a = a
+onward (Err r) a = Err r
 
 -- THE ROOM OF TWO BUFFERS of so many words, each of which wants n: the first is tested before the second
 unfoldable pub room_tests : ℕ → ℕ → ℕ → List Test

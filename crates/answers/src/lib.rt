@@ -5,7 +5,6 @@
 ghost use Rattle.std.specs.Prelude.{◌≡◌};
 ghost use Rattle.answers.specs.Answers.{number_of};
 ghost use Rattle.answers.specs.Tests.{first_broken, room_tests};
-ghost use Rattle.answers.specs.Ends.{end_refused};
 
 // The limits of a card and of a list of vectors; specs/Limits.antt has the same.
 pub const MAX_GRAPHS: usize = 1024;
@@ -22,8 +21,8 @@ pub const MAX_VECTORS: usize = 65535;
 
 pub const MAX_WIDTH: usize = MAX_GRAPHS / 16;
 
-// The rules of document 01's table of refusals, and those of the later requests. `rule_number` gives each its number.
-#[derive(Clone, Copy)]
+// The rules of document 01's table of refusals, and those of the later requests. As a `u32` each is its number.
+#[derive(Clone, Copy, PartialEq, Eq, Debug)]
 pub enum Rule {
     CardTooLong,
     TooManyGraphs,
@@ -44,8 +43,27 @@ pub enum Rule {
     FaultListForm,
 }
 
-// The numbers that a check answers.
+// Why something is refused: the first rule that it breaks, and where.
+#[derive(Clone, Copy, PartialEq, Eq, Debug)]
+pub struct Refusal(pub Rule, pub usize);
+
+// What is lent to a call: whole words, and how many bytes follow them that make no word. By words there are none.
 #[derive(Clone, Copy)]
+pub struct Lent<'a> {
+    pub words: &'a [u32],
+    pub extra: usize,
+}
+
+impl<'a> Lent<'a> {
+    pub fn whole(words: &'a [u32]) -> Lent<'a>
+        ensures { (result.words ≡ words.entry) × (result.extra ≡ 0) }
+    {
+        Lent { words, extra: 0 }
+    }
+}
+
+// The numbers that a check answers.
+#[derive(Clone, Copy, PartialEq, Eq, Debug, Default)]
 pub struct Counts {
     pub inputs: usize,
     pub graphs: usize,
@@ -54,84 +72,53 @@ pub struct Counts {
     pub faults: usize,
 }
 
-// The answer of a check: a refusal has its rule and its position.
-#[derive(Clone, Copy)]
-pub enum Answer {
-    Accepted(Counts),
-    Refused(Rule, usize),
-}
-
-// The reply of a call that works on cards: done, with the number that it tells beside its buffers (the length of a change list, the marked
-// count of a grading, the number of words of a joined card or of the card of a gate list, else 0); or refused, as a check is.
-#[derive(Clone, Copy)]
-pub enum Reply {
-    Done(usize),
-    Refused(Rule, usize),
-}
-
-// How a worker ends, which does the work of a call for words and for bytes: the reply, and how many words it wrote to the front of its buffer, and of a
-// second one.
-#[derive(Clone, Copy)]
-pub struct Ended {
-    pub reply: Reply,
+// What a call is done with: the number that it tells beside its buffers (the length of a change list, the marked count of a grading, the number of words of a
+// joined card or of the card of a gate list, else 0), and how many words it wrote to the front of its buffer, and of a second one.
+#[derive(Clone, Copy, PartialEq, Eq, Debug)]
+pub struct Done {
+    pub number: usize,
     pub words: usize,
     pub more: usize,
 }
 
-// What a part of the check finds.
-#[derive(Clone, Copy)]
-pub enum Verdict {
-    Sound,
-    Broken(Rule, usize),
-}
-
 // A rule's number: 1 to 12 in document 01, from 13 on in document 02.
-#[tactic(auto, unfolding(crate::specs::Answers::number_of))]
-pub fn rule_number(rule: Rule) -> u32
-    ensures { result ≡ number_of rule }
-{
-    match rule {
-        Rule::CardTooLong => 1,
-        Rule::TooManyGraphs => 2,
-        Rule::NodeCount => 3,
-        Rule::WordNotDue => 4,
-        Rule::StrayBit => 5,
-        Rule::ReadNotBelow => 6,
-        Rule::ExitNotLater => 7,
-        Rule::NodeNotNamed => 8,
-        Rule::NothingObservable => 9,
-        Rule::VectorForm => 10,
-        Rule::NumberTooHigh => 11,
-        Rule::BufferTooShort => 12,
-        Rule::WireForm => 13,
-        Rule::JoinedTooLarge => 14,
-        Rule::GateForm => 15,
-        Rule::LeadNotEarlier => 16,
-        Rule::FaultListForm => 17,
-    }
-}
+impl From<Rule> for u32 {
+    ghost from_gives = { λ rule n. n ≡ number_of rule };
 
-// How a worker ends that is refused: it wrote nothing.
-pub fn refused(rule: Rule, position: usize) -> Ended
-    ensures { result ≡ end_refused rule position }
-{
-    Ended {
-        reply: Reply::Refused(rule, position),
-        words: 0,
-        more: 0,
+    #[tactic(auto, unfolding(crate::specs::Answers::number_of))]
+    fn from(rule: Rule) -> u32 {
+        match rule {
+            Rule::CardTooLong => 1,
+            Rule::TooManyGraphs => 2,
+            Rule::NodeCount => 3,
+            Rule::WordNotDue => 4,
+            Rule::StrayBit => 5,
+            Rule::ReadNotBelow => 6,
+            Rule::ExitNotLater => 7,
+            Rule::NodeNotNamed => 8,
+            Rule::NothingObservable => 9,
+            Rule::VectorForm => 10,
+            Rule::NumberTooHigh => 11,
+            Rule::BufferTooShort => 12,
+            Rule::WireForm => 13,
+            Rule::JoinedTooLarge => 14,
+            Rule::GateForm => 15,
+            Rule::LeadNotEarlier => 16,
+            Rule::FaultListForm => 17,
+        }
     }
 }
 
 // The room of two buffers of so many words, each of which wants n.
 #[tactic(auto, unfolding(crate::specs::Tests::room_tests))]
-pub fn test_rooms(n: usize, first: usize, second: usize) -> Verdict
+pub fn test_rooms(n: usize, first: usize, second: usize) -> Result<(), Refusal>
     ensures { result ≡ first_broken (room_tests n first second) }
 {
     if first < n {
-        return Verdict::Broken(Rule::BufferTooShort, 0);
+        return Err(Refusal(Rule::BufferTooShort, 0));
     }
     if second < n {
-        return Verdict::Broken(Rule::BufferTooShort, 1);
+        return Err(Refusal(Rule::BufferTooShort, 1));
     }
-    Verdict::Sound
+    Ok(())
 }

@@ -6,11 +6,14 @@ use native.Mathlib.Nat.{mod-lt, zero-lt-suc, pow-suc, zero-div}
 use native.Mathlib.Numerals.{one-add}
 use native.Mathlib.Omega.{arith}
 use native.Mathlib.Decide.{ℕ_discrete, dec_lt}
-use lib.ListN.{length, get_or, set, length-set}
-use lib.Seq.{get_or-set_same, get_or-set_other}
+use lib.ListN.{length, get_or, set, drop, replicate, length-set, length-drop, length-replicate, get_or-replicate}
+use lib.Seq.{get_or-set_same, get_or-set_other, length-take-le}
 use lib.Bits.{bit_or, or_shr, or_mod}
 use lib.Pow.{shr-shr, shr_lt, shl_exact, shl-shr}
 use lib.Count.{count_trailing_zeros, under}
+use borrow.Author.Rules.{rules}
+use borrow.Rule.Slice.PartMut.{mid_of, put_mid}
+use Rattle.std.proofs.lemmas.List.{places}
 use Rattle.word32.specs.Fields.{bit_of}
 use Rattle.bitset.specs.Members.{member, WithBit, Gains, Next}
 
@@ -92,9 +95,6 @@ member-set : {zs : List ℕ} (ys : List ℕ) (base i v : ℕ) → base + i / 32 
 unfolding member
 member-set ys base i v h z = rw (z, get_or-set_same ys (base + i / 32) v 0 h) refl
 
-gains-none : (base : ℕ) (xs : List ℕ) → Gains base xs xs
-gains-none base xs = record { kept = λ at i. omega arith; below = λ i h. refl }
-
 gains-then : {base : ℕ} {xs ys zs : List ℕ} → Gains base xs ys → Gains base ys zs → Gains base xs zs
 gains-then g h = record {
   kept = λ at i. omega (arith, g.kept at i, h.kept at i);
@@ -124,9 +124,6 @@ pub record Merged (rows : List ℕ) (from lo w base : ℕ) (xs ys : List ℕ) : 
   pub gains : Gains base xs ys
   pub has : (i : ℕ) → lo ≤ i / 32 → i / 32 < w → member rows from i ≤ member ys base i
 
-pub merge_none : (rows : List ℕ) (from lo base : ℕ) (xs : List ℕ) → Merged rows from lo lo base xs xs
-merge_none rows from lo base xs = record { long = refl; gains = gains-none base xs; has = λ i p q. absurd (omega arith) }
-
 pub merge-more : {rows : List ℕ} {from lo w base more had : ℕ} {xs ys zs : List ℕ} → Merged rows from lo w base xs ys → base + w < length ys
     → more ≡ get_or rows (from + w) 0 → had ≡ get_or ys (base + w) 0 → zs ≡ set ys (base + w) (bit_or had more) → Merged rows from lo (w + 1) base xs zs
 unfolding member
@@ -141,26 +138,21 @@ merge-more {rows} {from} {lo} {w} {base} {more} {had} {xs} {ys} {zs} m h e f z =
       ];
     }
 
--- ---- words cleared, one by one
+-- ---- words filled with 0
 
-pub record Emptied (base w : ℕ) (xs ys : List ℕ) : Type 0 where
-  pub long : length ys ≡ length xs
-  pub below : (i : ℕ) → i < base → get_or ys i 0 ≡ get_or xs i 0
-  pub none : (i : ℕ) → i / 32 < w → member ys base i ≡ 0
-
-pub clear_none : (base : ℕ) (xs : List ℕ) → Emptied base 0 xs xs
-clear_none base xs = record { long = refl; below = λ i h. refl; none = λ i h. absurd (omega arith) }
-
-pub clear-more : {base w : ℕ} {xs ys zs : List ℕ} → Emptied base w xs ys → base + w < length ys → zs ≡ set ys (base + w) 0 → Emptied base (w + 1) xs zs
+pub cleared : {base n k : ℕ} (xs : List ℕ) {ys : List ℕ} → base + n ≤ length xs → k ≡ n → ys ≡ replicate (length (mid_of base k xs)) 0
+    → ((i : ℕ) → i < base → get_or (put_mid base k xs ys) i 0 ≡ get_or xs i 0) × ((i : ℕ) → i / 32 < n → member (put_mid base k xs ys) base i ≡ 0)
 unfolding member
-clear-more {base} {w} {xs} {ys} {zs} m h z = record {
-  long = rw z (simp length-set m.long);
-  below = λ i b. rw z (get_or-set_other ys (base + w) i 0 0 (λ e. omega arith)) ∙ m.below i b;
-  none = λ i q. elim (ℕ_discrete (i / 32) w) [
-    | yes u ↦ member-set {zs = zs} ys base i 0 (rw u h) (rw u z) ∙ bit-none (i % 32)
-    | no n ↦ rw (z, get_or-set_other ys (base + w) (base + i / 32) 0 0 (λ e. n (omega arith))) (m.none i (omega arith))
-  ];
-}
+cleared {base} {n} {k} xs {ys} h e z =
+    let b : base ≤ length xs = omega arith in
+    let l : length (mid_of base k xs) ≡ n = length-take-le k (drop base xs) (omega (arith, length-drop base xs)) ∙ e in
+    let m : length ys ≡ n = ap length z ∙ length-replicate (length (mid_of base k xs)) 0 ∙ l in (
+      λ i q. search (rules, places),
+      λ i q.
+          let r : i / 32 < length (mid_of base k xs) = omega arith in
+          let t : get_or (put_mid base k xs ys) (base + i / 32) 0 ≡ get_or ys (i / 32) 0 = search (rules, places) in
+          rw (t, z, get_or-replicate {A = ℕ} (length (mid_of base k xs)) (i / 32) 0 0 r) (bit-none (i % 32)),
+    )
 
 -- ---- the search
 
@@ -176,9 +168,6 @@ member-rest words base i k p q =
 pub record Passed (words : List ℕ) (base start end i : ℕ) : Type 0 where
   pub onward : start ≤ i
   pub none : (k : ℕ) → start ≤ k → k < i → k < end → member words base k ≡ 0
-
-pub passed_none : (words : List ℕ) (base start end : ℕ) → Passed words base start end start
-passed_none words base start end = record { onward = omega arith; none = λ i p q r. absurd (omega arith) }
 
 -- where the word has no number from i on, the search goes on to the next word
 pub passed-more : {words : List ℕ} {base start end i w : ℕ} → Passed words base start end i → w ≡ get_or words (base + i / 32) 0 → w / 2 ^ (i % 32) ≡ 0
@@ -206,9 +195,6 @@ next_here {words} {base} {start} {end} {i} {w} s e h n =
       ];
       there = λ r. member-rest words base i _ (omega arith) (omega arith) ∙ (rw (sym e, off) (trailing-there 32 _ (omega arith)));
     }
-
-pub next-end : {words : List ℕ} {base start end i : ℕ} → Passed words base start end i → end ≤ i → Next words base start end i
-next-end s h = record { onward = s.onward; none = s.none; there = λ l. absurd (omega arith) }
 
 -- a set is told by its words
 pub member-same : (xs ys : List ℕ) (base i : ℕ) → get_or ys (base + i / 32) 0 ≡ get_or xs (base + i / 32) 0 → member ys base i ≡ member xs base i

@@ -28,12 +28,10 @@ pub fn merge(rows: &[u32], from: usize, lo: usize, hi: usize, words: &mut [u32],
     ensures { Gains base words.old words.new
         × ((i : ℕ) → lo ≤ i / 32 → i / 32 < hi → member rows.now from i ≤ member words.new base i) }
 {
-    let mut w = lo;
-    while w < hi {
+    for w in lo..hi {
         let more = lists::get(rows, from + w);
         let had = lists::get(words, base + w);
         lists::put(words, base + w, had | more);
-        w += 1;
     }
 }
 
@@ -43,11 +41,7 @@ pub fn clear(words: &mut [u32], base: usize, n: usize)
     ensures { ((i : ℕ) → i < base → get_or words.new i 0 ≡ get_or words.old i 0)
         × ((i : ℕ) → i / 32 < n → member words.new base i ≡ 0) }
 {
-    let mut w = 0;
-    while w < n {
-        lists::put(words, base + w, 0);
-        w += 1;
-    }
+    words[base..base + n].fill(0);
 }
 
 // The least number of the set at `base` from `start` on, or some number from `end` on where there is none below it.

@@ -97,11 +97,8 @@ module _ {ws : List ℕ} {c : Counts} (a : Shape ws c) (x : List ℕ) where
 pub all-sites : {ws : List ℕ} {c : Counts} → Shape ws c → 2 * (c.nodes + c.graphs) ≡ c.faults
 all-sites a = omega (arith, a.all-faults)
 
--- THE BLOCK: after no vector, and after one more
+-- THE BLOCK: after one more vector
 module _ {ws : List ℕ} {c : Counts} {vs xs us : List ℕ} {r : Running} where
-  pub took-none : Counted (in_grade ws c) c.faults xs us r → TookIn ws c vs 0 xs us xs us r r
-  took-none k = record { vector = omega arith; graded = λ catches e g. g; counted = k }
-
   pub took_more : {n : ℕ} {cs ys ts zs ss : List ℕ} {q p : Running} → Shape ws c → Detections ws c (vector c.inputs vs n) 0 cs → TookIn ws c vs n xs us ys ts r q
       → p.vector ≡ q.vector + 1 → Folded q.vector (c.nodes + c.graphs) cs ys ts zs ss → Counted (in_grade ws c) c.faults zs ss p
       → TookIn ws c vs (n + 1) xs us zs ss r p

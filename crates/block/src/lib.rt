@@ -25,15 +25,12 @@ pub fn begin(c: Counts, marks: &mut [u32], tallies: &mut [u32]) -> Running
 // The most vectors of a block.
 pub const BLOCK: usize = 64;
 
-// Where the block ends that starts at vector t of n.
+// Where the block ends that starts at vector t of n: after 64 vectors, or after the last.
 pub fn block_end(t: usize, n: usize) -> usize
     requires { t < n }
     ensures { BlockEnd t n result }
 {
-    if n - t < BLOCK {
-        return n;
-    }
-    t + BLOCK
+    t + BLOCK.min(n - t)
 }
 
 // Takes in a block of vectors given as words and hands the next result back.
@@ -59,12 +56,10 @@ pub fn take_block(
     let words = &tables[..];
     let graded = &words[cardtables::grade_words()..];
     let mut q = r;
-    let mut i = 0;
-    while i < n {
+    for i in 0..n {
         let vector = testvectors::vector_at(c.inputs, vectors, i);
         catches::catch_vector(card, c, tables, vector, &mut values, &mut walk, &mut caught);
         q = q.take_in(all, &caught, graded, marks, tallies);
-        i += 1;
     }
     q
 }

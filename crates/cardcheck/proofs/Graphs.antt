@@ -5,25 +5,20 @@ use Prim.Native.Nat.{ℕ, ◌+◌, ◌-◌, ◌<◌, ◌≤◌}
 use mathlib.Core.Path.{◌≡◌, refl, sym, ap, ◌∙◌, subst}
 use mathlib.Core.List.{List}
 use native.Mathlib.Omega.{arith}
-use Rattle.reader.specs.Due.{due_at, after_at}
-use Rattle.reader.specs.declared.Due.{Due}
+use Rattle.reader.specs.Due.{Due, due_at, after_at}
 use Rattle.reader.proofs.Laws.{due-word, after-word}
 use Rattle.answers.specs.declared.Counts.{Counts}
-use Rattle.answers.specs.declared.Answer.{Answer}
-use Rattle.answers.specs.declared.Verdict.{Verdict}
-use Rattle.answers.specs.declared.Verdict.TheVariants.{Sound}
+use Rattle.std.specs.Prelude.{Option, None, Result, Ok, Err}
+use Rattle.answers.specs.declared.Refusal.{Refusal}
+use Rattle.answers.specs.Answers.{Verdict, Answer}
 use Rattle.form.specs.Check.{counts, word, card_length, with_graph, graph_verdict, rest}
 use Rattle.form.proofs.Verdicts.{header-few}
 use Rattle.form.proofs.Checked.{few-observable, none_read, graph-step}
 use Rattle.layout.specs.Shape.{Shape}
 use Rattle.nodecheck.specs.Table.{Blank, NodesTold}
-use Rattle.cardcheck.specs.Graph.{Few, DueAfter, Opened, OpeningTold, NodesRead, GraphTold}
+use Rattle.cardcheck.specs.Graph.{Few, DueAfter, Opened, answer_from, OpeningTold, NodesRead, GraphTold}
 use Rattle.cardcheck.specs.declared.Header.{Header}
-use Rattle.cardcheck.specs.declared.Opening.{Opening}
-use Rattle.cardcheck.specs.declared.Opening.TheVariants as opening
-use Rattle.cardcheck.specs.declared.Graph.{Graph}
-use Rattle.cardcheck.specs.declared.Graph.TheVariants as graph
-use Rattle.cardcheck.proofs.Turns.{rest-go}
+use Rattle.cardcheck.proofs.Turns.{nodes-stops, rest-go, rest-stop}
 
 -- the answer from the start
 abbrev pub all : List ℕ → ℕ → Answer
@@ -34,7 +29,7 @@ pub record Going (ws : List ℕ) (extra : ℕ) (c : Counts) (p : ℕ) (tb : List
   pub at : p ≡ card_length c
   pub shape : Shape ws c
   pub blanks : Blank tb
-  pub same : rest ws extra (1025 - c.graphs) c ≡ all ws extra
+  pub same : answer_from ws extra c ≡ all ws extra
 
 module _ (ws : List ℕ) (extra : ℕ) where
   pub begin : (t : List ℕ) → Blank t → Going ws extra (counts 0 0 0 0) 0 t
@@ -58,8 +53,11 @@ module _ (ws : List ℕ) (extra : ℕ) where
     pub may-open : (c.nodes ≤ 4096) × DueAfter d c
     may-open = (i.shape.few-nodes, λ w at e. (due-word ws (card_length c) w at (sym here ∙ e)).2)
 
-    pub over-now : (r : Opening) → OpeningTold d c extra r → (a : Answer) → r ≡ opening.Over a → a ≡ all ws extra
-    over-now r told a e = told.over ws i.shape here a e ∙ i.same
+    pub over-now : (r : Result (Option Header) Refusal) → OpeningTold d c extra r → r ≡ Ok None → Ok c ≡ all ws extra
+    over-now r told e = sym (told.over ws i.shape here e) ∙ i.same
+
+    pub stops-now : (r : Result (Option Header) Refusal) → OpeningTold d c extra r → (e : Refusal) → r ≡ Err e → Err e ≡ all ws extra
+    stops-now r told e q = sym (told.stops ws i.shape here e q) ∙ i.same
 
   -- a graph was opened with the header h, and its nodes told r, with the reader then at m and the table zs
   module _ {c : Counts} {p : ℕ} {tb : List ℕ} (i : Going ws extra c p tb) (h : Header) (o : Opened ws c h) where
@@ -80,26 +78,30 @@ module _ (ws : List ℕ) (extra : ℕ) where
       pub nodes-read : NodesRead ws c h r zs
       nodes-read = record { opened = o; verdict = told_at.verdict; names = told_at.names }
 
-      module _ (t : List ℕ) (g : Graph) (told : GraphTold h r c zs t g) where
-        pub over-then : (a : Answer) → g ≡ graph.Over a → a ≡ all ws extra
-        over-then a e = told.over ws extra i.shape nodes-read a e ∙ i.same
+      pub stops-then : (e : Refusal) → r ≡ Err e → Err e ≡ all ws extra
+      stops-then e q = sym (rest-stop i.shape extra o.inside e (nodes-stops nodes-read e q)) ∙ i.same
 
-        module _ (c' : Counts) (e : g ≡ graph.Read c') (good : r ≡ Sound) where
-          abbrev pub said : (graph_verdict ws c ≡ Sound) × (c' ≡ with_graph (word ws (card_length c)) c) × Blank t
-          said = told.read ws nodes-read c' e
+    -- its nodes are sound
+    module _ (m : ℕ) (zs : List ℕ) (er : NodesTold ws (after_at ws p - 1) c.graphs h.nodes zs m (Ok tt)) (t : List ℕ) (g : Answer) (told : GraphTold h c zs t g) where
+      pub refused-then : (e : Refusal) → g ≡ Err e → Err e ≡ all ws extra
+      refused-then e q = sym (told.stops ws extra i.shape (nodes-read (Ok tt) m zs er) e q) ∙ i.same
 
-          pub reached : m ≡ card_length c'
-          reached =
-              let n : h.nodes ≡ _ = ap (λ (k : Header). k.nodes) o.header in
-              told_at.next good ∙ rw said.1 (omega (arith, n))
+      module _ (c' : Counts) (e : g ≡ Ok c') where
+        abbrev pub said : (graph_verdict ws c ≡ Ok tt) × (c' ≡ with_graph (word ws (card_length c)) c) × Blank t
+        said = told.read ws (nodes-read (Ok tt) m zs er) c' e
 
-          pub onward : Going ws extra c' m t
-          onward = record {
-            at = reached;
-            shape = subst (Shape ws) (sym said.1) (graph-step ws c i.shape o.inside said.0);
-            blanks = said.2;
-            same = ap (λ (k : Counts). rest ws extra (1025 - k.graphs) k) said.1 ∙ sym (rest-go i.shape extra o.inside said.0) ∙ i.same;
-          }
+        pub reached : m ≡ card_length c'
+        reached =
+            let n : h.nodes ≡ _ = ap (λ (k : Header). k.nodes) o.header in
+            (told_at (Ok tt) m zs er).next refl ∙ rw said.1 (omega (arith, n))
 
-          pub nearer : 1025 - c'.graphs < 1025 - c.graphs
-          nearer = rw said.1 (omega (arith, i.shape.few-graphs))
+        pub onward : Going ws extra c' m t
+        onward = record {
+          at = reached;
+          shape = subst (Shape ws) (sym said.1) (graph-step ws c i.shape o.inside said.0);
+          blanks = said.2;
+          same = ap (λ (k : Counts). answer_from ws extra k) said.1 ∙ sym (rest-go i.shape extra o.inside said.0) ∙ i.same;
+        }
+
+        pub nearer : 1025 - c'.graphs < 1025 - c.graphs
+        nearer = rw said.1 (omega (arith, i.shape.few-graphs))

@@ -5,16 +5,16 @@
 ghost use Rattle.std.specs.Prelude.{◌≡◌, ◌+◌, ◌≤◌, eqb};
 ghost use Rattle.lists.specs.Counting.{choose};
 ghost use Rattle.word32.specs.Fields.{kind};
-ghost use Rattle.form.specs.Check.{counts, card_length, with_graph, input_tests, output_tests, header_verdict, rest, checked_with, lent_check};
+ghost use Rattle.form.specs.Check.{counts, card_length, with_graph, input_tests, output_tests, header_verdict, rest, lent_check};
 ghost use Rattle.answers.specs.Limits.{max_graphs, max_nodes};
-ghost use Rattle.answers.specs.Calls.{whole};
+ghost use Rattle.answers.specs.Calls.{lends, whole};
 ghost use Rattle.answers.specs.Tests.{first_broken};
 ghost use Rattle.nodecheck.specs.Table.{Blank};
 ghost use Rattle.cardcheck.specs.Graph.{EndTold, DueAfter, opening_of, OpeningTold, Few, GraphTold};
 
-use answers::{Answer, Counts, MAX_GRAPHS, MAX_NODES, MAX_WORDS, Rule, Verdict};
+use answers::{Counts, Lent, MAX_GRAPHS, MAX_NODES, MAX_WORDS, Refusal, Rule};
 use nodecheck::Named;
-use reader::Due;
+use reader::{Due, Reader};
 
 // A sound header: its word, where it stands, and how many nodes follow.
 #[derive(Clone, Copy)]
@@ -24,61 +24,47 @@ struct Header {
     nodes: usize,
 }
 
-// What is due after some graphs: a graph more, or the check is over.
-#[derive(Clone, Copy)]
-enum Opening {
-    Graph(Header),
-    Over(Answer),
-}
-
-// What a graph comes to: the counts with it, or the check is over.
-#[derive(Clone, Copy)]
-enum Graph {
-    Read(Counts),
-    Over(Answer),
-}
-
 // An input's header.
-pub fn check_input(w: u32, at: usize, c: Counts) -> Verdict
+pub fn check_input(w: u32, at: usize, c: Counts) -> Result<(), Refusal>
     ensures { result ≡ first_broken (input_tests w at c) }
 {
     if c.inputs < c.graphs {
-        return Verdict::Broken(Rule::WordNotDue, at);
+        return Err(Refusal(Rule::WordNotDue, at));
     }
     if word32::input_spare(w) != 0 {
-        return Verdict::Broken(Rule::StrayBit, at);
+        return Err(Refusal(Rule::StrayBit, at));
     }
-    Verdict::Sound
+    Ok(())
 }
 
 // An output's header.
-fn check_output(w: u32, at: usize, c: Counts) -> Verdict
+fn check_output(w: u32, at: usize, c: Counts) -> Result<(), Refusal>
     requires { (at ≡ card_length c) × (c.nodes ≤ max_nodes) }
     ensures { result ≡ first_broken (output_tests w c) }
 {
     let n = word32::node_count(w);
     if 2 < word32::kind(w) {
-        return Verdict::Broken(Rule::WordNotDue, at);
+        return Err(Refusal(Rule::WordNotDue, at));
     }
     if word32::header_spare(w) != 0 {
-        return Verdict::Broken(Rule::StrayBit, at);
+        return Err(Refusal(Rule::StrayBit, at));
     }
     if n == 0 {
-        return Verdict::Broken(Rule::NodeCount, at);
+        return Err(Refusal(Rule::NodeCount, at));
     }
     if MAX_NODES < c.nodes + n {
-        return Verdict::Broken(Rule::NodeCount, at);
+        return Err(Refusal(Rule::NodeCount, at));
     }
-    Verdict::Sound
+    Ok(())
 }
 
 // Any header.
-fn check_header(w: u32, at: usize, c: Counts) -> Verdict
+fn check_header(w: u32, at: usize, c: Counts) -> Result<(), Refusal>
     requires { (at ≡ card_length c) × (c.nodes ≤ max_nodes) }
     ensures { result ≡ header_verdict w c }
 {
     if MAX_GRAPHS <= c.graphs {
-        return Verdict::Broken(Rule::TooManyGraphs, at);
+        return Err(Refusal(Rule::TooManyGraphs, at));
     }
     if word32::kind(w) == 0 {
         return check_input(w, at, c);
@@ -115,103 +101,81 @@ pub fn with_graph(w: u32, c: Counts) -> Counts
 }
 
 // The words end after the graphs that c counts; len is how many they are.
-pub fn finish(len: usize, extra: usize, c: Counts) -> Answer
+pub fn finish(len: usize, extra: usize, c: Counts) -> Result<Counts, Refusal>
     ensures { EndTold len extra c result }
 {
     if 0 < extra {
-        return Answer::Refused(Rule::WordNotDue, len);
+        return Err(Refusal(Rule::WordNotDue, len));
     }
     if c.observable == 0 {
-        return Answer::Refused(Rule::NothingObservable, len);
+        return Err(Refusal(Rule::NothingObservable, len));
     }
-    Answer::Accepted(c)
+    Ok(c)
 }
 
 // A header that is due.
-fn open_word(w: u32, at: usize, c: Counts) -> Opening
+fn open_word(w: u32, at: usize, c: Counts) -> Result<Header, Refusal>
     requires { (at ≡ card_length c) × (c.nodes ≤ max_nodes) }
     ensures { result ≡ opening_of (header_verdict w c) w at }
 {
-    if let Verdict::Broken(rule, position) = check_header(w, at, c) {
-        return Opening::Over(Answer::Refused(rule, position));
-    }
+    check_header(w, at, c)?;
     let nodes = word32::node_count(w);
-    Opening::Graph(Header { word: w, at, nodes })
+    Ok(Header { word: w, at, nodes })
 }
 
-// What is due after the graphs that c counts: one graph more, or the end of the words.
-fn open_graph(due: Due, c: Counts, extra: usize) -> Opening
+// What is due after the graphs that c counts: the header of one graph more, or none where the words end.
+fn open_graph(due: Due, c: Counts, extra: usize) -> Result<Option<Header>, Refusal>
     requires { (c.nodes ≤ max_nodes) × DueAfter due c }
     ensures { OpeningTold due c extra result }
 {
     match due {
-        Due::Word(w, at) => open_word(w, at, c),
-        Due::End(len) => Opening::Over(finish(len, extra, c)),
-    }
-}
-
-// The graph whose header and nodes are read: whether each node is named, and then the counts with it. The table is blank again after a sound graph.
-fn close_graph(h: Header, nodes: Verdict, c: Counts, table: &mut Named) -> Graph
-    requires { (h.nodes ≤ max_nodes) × Few c }
-    ensures { GraphTold h nodes c table.old table.new result }
-{
-    if let Verdict::Broken(rule, position) = nodes {
-        return Graph::Over(Answer::Refused(rule, position));
-    }
-    if nodecheck::take_unnamed(table, h.nodes) {
-        return Graph::Over(Answer::Refused(Rule::NodeNotNamed, h.at));
-    }
-    Graph::Read(with_graph(h.word, c))
-}
-
-// All the words, and so many bytes after them that make no word: one reader goes from the first word to the last.
-fn check_words(card: &[u32], extra: usize, table: &mut Named) -> Answer
-    requires { Blank table.old }
-    ensures { result ≡ rest card.now extra (max_graphs + 1) (counts 0 0 0 0) }
-{
-    let mut r = reader::new(card, 0);
-    let mut c = Counts {
-        inputs: 0,
-        graphs: 0,
-        nodes: 0,
-        observable: 0,
-        faults: 0,
-    };
-    loop {
-        let due = reader::next(&mut r);
-        match open_graph(due, c, extra) {
-            Opening::Over(answer) => {
-                return answer;
-            }
-            Opening::Graph(h) => {
-                let nodes = nodecheck::check_nodes(&mut r, c.graphs, h.nodes, table);
-                match close_graph(h, nodes, c, table) {
-                    Graph::Over(answer) => {
-                        return answer;
-                    }
-                    Graph::Read(d) => {
-                        c = d;
-                    }
-                }
-            }
+        Ok((w, at)) => Ok(Some(open_word(w, at, c)?)),
+        Err(len) => {
+            finish(len, extra, c)?;
+            Ok(None)
         }
     }
 }
 
-// The check of a card whose words are followed by so many bytes that make no word.
-pub fn check_with(card: &[u32], extra: usize) -> Answer
-    ensures { result ≡ checked_with card.now extra }
+// The graph whose header and nodes are read, and are sound: whether each node is named, and then the counts with it. The table is blank again.
+fn close_graph(h: Header, c: Counts, table: &mut Named) -> Result<Counts, Refusal>
+    requires { (h.nodes ≤ max_nodes) × Few c }
+    ensures { GraphTold h c table.old table.new result }
 {
-    if MAX_WORDS < card.len() {
-        return Answer::Refused(Rule::CardTooLong, 0);
+    if nodecheck::take_unnamed(table, h.nodes) {
+        return Err(Refusal(Rule::NodeNotNamed, h.at));
+    }
+    Ok(with_graph(h.word, c))
+}
+
+// All the words, and so many bytes after them that make no word: one reader goes from the first word to the last.
+fn check_words(card: &[u32], extra: usize, table: &mut Named) -> Result<Counts, Refusal>
+    requires { Blank table.old }
+    ensures { result ≡ rest card.now extra (max_graphs + 1) (counts 0 0 0 0) }
+{
+    let mut r = Reader::new(card, 0);
+    let mut c = Counts::default();
+    while let Some(h) = open_graph(r.next(), c, extra)? {
+        nodecheck::check_nodes(&mut r, c.graphs, h.nodes, table)?;
+        c = close_graph(h, c, table)?;
+    }
+    Ok(c)
+}
+
+// The check of a card as it is lent.
+pub fn check_lent(card: Lent<'_>) -> Result<Counts, Refusal>
+    ensures { result ≡ lent_check (lends card.entry) }
+{
+    if MAX_WORDS < card.words.len() {
+        return Err(Refusal(Rule::CardTooLong, 0));
     }
     let mut table = nodecheck::none_named();
-    check_words(card, extra, &mut table)
+    check_words(card.words, card.extra, &mut table)
 }
 
 // The check of a card.
-pub fn check(card: &[u32]) -> Answer
+pub fn check(card: &[u32]) -> Result<Counts, Refusal>
     ensures { result ≡ lent_check (whole card.now) }
 {
-    check_with(card, 0)
+    check_lent(Lent::whole(card))
 }

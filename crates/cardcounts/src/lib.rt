@@ -5,11 +5,11 @@ ghost use Rattle.std.specs.Prelude.{◌≡◌, ◌≤◌, min, length};
 ghost use Rattle.lists.specs.Tables.{front};
 ghost use Rattle.answers.specs.Limits.{max_faults};
 ghost use Rattle.answers.specs.Answers.{values_of};
-ghost use Rattle.answers.specs.Calls.{lent};
+ghost use Rattle.answers.specs.Calls.{lends};
 ghost use Rattle.answers.specs.Ends.{EndsAs};
 ghost use Rattle.cardcounts.specs.Calls.{check_outcome};
 
-use answers::{Answer, Counts, Ended, Reply, Rule};
+use answers::{Counts, Done, Lent, Refusal, Rule};
 
 // The numbers of a check go to the front of a buffer, as words.
 fn put_counts(c: Counts, numbers: &mut [u32])
@@ -24,22 +24,18 @@ fn put_counts(c: Counts, numbers: &mut [u32])
 }
 
 // The check of a card, with its numbers at the front of a buffer, for one of `room` words.
-pub fn check_counts(card: &[u32], extra: usize, room: usize, numbers: &mut [u32]) -> Ended
+pub fn check_counts(card: Lent<'_>, room: usize, numbers: &mut [u32]) -> Result<Done, Refusal>
     requires { min room 5 ≤ length numbers.old }
-    ensures { EndsAs (check_outcome (lent card.now extra) room) room result numbers.old numbers.new }
+    ensures { EndsAs (check_outcome (lends card.entry) room) room result numbers.old numbers.new }
 {
-    match cardcheck::check_with(card, extra) {
-        Answer::Refused(rule, position) => answers::refused(rule, position),
-        Answer::Accepted(c) => {
-            if room < 5 {
-                return answers::refused(Rule::BufferTooShort, 0);
-            }
-            put_counts(c, numbers);
-            Ended {
-                reply: Reply::Done(0),
-                words: 5,
-                more: 0,
-            }
-        }
+    let c = cardcheck::check_lent(card)?;
+    if room < 5 {
+        return Err(Refusal(Rule::BufferTooShort, 0));
     }
+    put_counts(c, numbers);
+    Ok(Done {
+        number: 0,
+        words: 5,
+        more: 0,
+    })
 }

@@ -1,5 +1,5 @@
 -- THE WHOLE INPUT: what the program grades is all of it, as far as it decides, given what is trusted of the reads. Assumes nothing.
-use Rattle.std.proofs.Common.{◌≡◌, ℕ, ◌+◌, ◌*◌, ◌≤◌, Bool, true, false, ◌||◌, ltb, List, length, take, Option, None, Some, sym, ap, subst, ◌∙◌, refl, rules, arith}
+use Rattle.std.proofs.Common.{◌≡◌, ℕ, ◌+◌, ◌*◌, ◌≤◌, Bool, true, false, ◌||◌, ltb, List, length, take, Option, None, Some, Ok, sym, ap, subst, ◌∙◌, refl, rules, arith}
 use Rattle.std.proofs.lemmas.List.{take_all, take-take, take-append-le, length-append, length-take-le}
 use Rattle.std.proofs.Math.Decide.{dec_lt}
 use Rattle.std.specs.Prelude.{IfSome}
@@ -9,7 +9,6 @@ use Rattle.report.specs.Report.{max_vector_words, word_count, text_of, bytes_wan
 use Rattle.report.proofs.Cases.{text-front}
 use Rattle.cardinput.proofs.Fronts.{shorter-fronts}
 use Rattle.cardinput.specs.declared.reads.Source.{Source}
-use Rattle.cardinput.specs.declared.Reading.TheVariants.{Read}
 use Rattle.cardinput.specs.declared.reads.Answer.TheVariants.{Bytes}
 use Rattle.cardinput.specs.Known.{FrontOf}
 use Rattle.std.specs.Io.KnownBytes.{Appends}
@@ -32,7 +31,7 @@ front-told w n h =
     let decide = take-take (bytes_wanted (take 4 w)) n w h in
     sym (text-front (take n w)) ∙ ap text_of (ap (λ x. take (bytes_wanted x) (take n w)) counted ∙ decide) ∙ text-front w
 
-pub whole-input : (w b : List ℕ) (s : Source) → CameAll b (Read s) → FirstOf w b s → text_of (take s.handed b) ≡ text_of w
+pub whole-input : (w b : List ℕ) (s : Source) → CameAll b (Ok s) → FirstOf w b s → text_of (take s.handed b) ≡ text_of w
 whole-input w b s came first = ap text_of first.bytes ∙ elim (dec_lt s.handed (bytes_wanted (take 4 b))) [
   | yes l ↦ ap text_of (take_all s.handed w (first.end (came.1 l)))
   | no m ↦
@@ -61,7 +60,7 @@ at-start None b s h l = (omega arith, tt, λ e. cc)
 at-start (Some w) b s h l = (omega arith, rw h refl, λ e. cc)
 
 -- THE TEXT WRITTEN is that of all that the reader had
-pub all-written : (known old new : Option (List ℕ)) (b : List ℕ) (s : Source) → CameAll b (Read s) → IfSome known (λ w. FirstOf w b s)
+pub all-written : (known old new : Option (List ℕ)) (b : List ℕ) (s : Source) → CameAll b (Ok s) → IfSome known (λ w. FirstOf w b s)
     → Appends old new (text_of (take s.handed b)) → IfSome known (λ w. Appends old new (text_of w))
 all-written None old new b s came first written = search rules
 all-written (Some w) old new b s came first written = subst (Appends old new) (whole-input w b s came first) written

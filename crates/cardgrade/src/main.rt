@@ -11,15 +11,12 @@ ghost use Rattle.std.specs.Prelude.{◌≡◌, ◌≤◌, length, take, OnOk, If
 ghost use Rattle.std.specs.Io.KnownBytes.{Appends};
 ghost use Rattle.report.specs.Report.{max_input, text_of};
 ghost use Rattle.textlines.specs.Text.{max_text};
-ghost use Rattle.cardinput.specs.declared.Reading.TheVariants.{Read};
 ghost use Rattle.cardinput.specs.Known.{told_in};
+ghost use Rattle.cardgrade.specs.declared.Failure.TheVariants.{Unread};
 ghost use Rattle.cardgrade.specs.Whole.{CameAll, FirstOf};
 
-mod noting;
-
+use cardinput::Unread;
 use cardinput::reads::Source;
-use cardinput::{Reading, reads};
-use noting::Noting;
 use report::MAX_INPUT;
 use std::io;
 use std::io::{Eprint, Read, Write};
@@ -29,8 +26,16 @@ use textlines::MAX_TEXT;
 // Why nothing, or not all, was printed.
 #[derive(Drop)]
 enum Failure {
-    Unread,
+    Unread(io::Error),
     Unwritten(io::Error),
+}
+
+impl From<Unread> for Failure {
+    ghost from_gives = { λ u f. f ≡ Unread u.error };
+
+    fn from(unread: Unread) -> Failure {
+        Failure::Unread(unread.error)
+    }
 }
 
 // Room for all the bytes that can decide, and for the longest text.
@@ -47,29 +52,25 @@ fn text_room() -> [u8; MAX_TEXT]
 }
 
 // Reads the word count, and then the bytes that it makes wanted.
-fn read_input<R: Read>(reader: &mut R, input: &mut [u8]) -> Reading
+fn read_input<R: Read>(reader: &mut R, input: &mut [u8]) -> Result<Source, Unread>
     requires { max_input ≤ length input.old }
     ensures came { CameAll input.new result }
     ensures first { IfSome (R.remaining reader.old) (λ w. FirstOf w input.new (told_in result)) }
 {
-    match cardinput::read_on(reader, input, reads::start(), 4) {
-        Reading::Failed(source) => Reading::Failed(source),
-        Reading::Read(source) => {
-            if reads::handed(source) < 4 {
-                return Reading::Read(source);
-            }
-            let wanted = report::wanted(&input[..4]);
-            cardinput::read_on(reader, input, source, wanted)
-        }
+    let source = cardinput::read_on(reader, input, Source::start(), 4)?;
+    if source.handed() < 4 {
+        return Ok(source);
     }
+    let wanted = report::wanted(&input[..4]);
+    cardinput::read_on(reader, input, source, wanted)
 }
 
 // Prints the text for the bytes read. It asks that they are all, and that no read failed.
 fn print_report<W: Write>(writer: &mut W, input: &[u8], source: Source) -> io::Result<()>
-    requires { CameAll input.now (Read source) × (max_input ≤ length input.now) }
+    requires { CameAll input.now (Ok source) × (max_input ≤ length input.now) }
     ensures { OnOk result (Appends (W.contents writer.old) (W.contents writer.new) (text_of (take source.handed input.now))) }
 {
-    let n = reads::handed(source);
+    let n = source.handed();
     let mut text = text_room();
     let long = report::report(&input[..n], &mut text);
     writer.write_all(&text[..long])
@@ -80,13 +81,8 @@ fn grade<R: Read, W: Write>(reader: &mut R, writer: &mut W) -> Result<(), Failur
     ensures { OnOk result (IfSome (R.remaining reader.old) (λ w. Appends (W.contents writer.old) (W.contents writer.new) (text_of w))) }
 {
     let mut input = input_room();
-    match read_input(reader, &mut input) {
-        Reading::Failed(_) => Err(Failure::Unread),
-        Reading::Read(source) => match print_report(writer, &input, source) {
-            Ok(()) => Ok(()),
-            Err(e) => Err(Failure::Unwritten(e)),
-        },
-    }
+    let source = read_input(reader, &mut input)?;
+    print_report(writer, &input, source).map_err(Failure::Unwritten)
 }
 
 // Says what failed, and why. Where standard error does not take it there is nobody to tell.
@@ -96,10 +92,9 @@ fn fail<P: Eprint>(rt: &P, what: &str, why: io::Error) -> ExitCode {
 }
 
 fn main(rt: HostRuntime) -> ExitCode {
-    let mut reader = Noting::new(rt.stdin());
-    match grade(&mut reader, &mut rt.stdout()) {
+    match grade(&mut rt.stdin(), &mut rt.stdout()) {
         Ok(()) => ExitCode::SUCCESS,
-        Err(Failure::Unread) => fail(&rt, "cannot read standard input", reader.error()),
+        Err(Failure::Unread(e)) => fail(&rt, "cannot read standard input", e),
         Err(Failure::Unwritten(e)) => fail(&rt, "standard output did not take the whole text", e),
     }
 }

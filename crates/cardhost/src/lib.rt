@@ -10,6 +10,9 @@ ghost use Rattle.grade.specs.Calls.{grade_outcome};
 ghost use Rattle.join.specs.Calls.{join_outcome};
 ghost use Rattle.gates.specs.Calls.{to_card_outcome};
 
+use answers::Lent;
+use testvectors::VectorList;
+
 // Check: the numbers of inputs, graphs, nodes, observable graphs and faults, in a buffer of at least five words.
 #[unsafe(no_mangle)]
 pub extern "C" fn card_check(card: &[u8], numbers: &mut [u8]) -> u64
@@ -17,8 +20,8 @@ pub extern "C" fn card_check(card: &[u8], numbers: &mut [u8]) -> u64
 {
     let mut ws = inbytes::card_room();
     let mut out = [0u32; 5];
-    let n = inbytes::read_words(card, &mut ws);
-    let end = cardcounts::check_counts(&ws[..n], card.len() % 4, numbers.len() / 4, &mut out);
+    let card = inbytes::read(card, &mut ws);
+    let end = cardcounts::check_counts(card, numbers.len() / 4, &mut out);
     inbytes::answer(end, &out, numbers)
 }
 
@@ -45,21 +48,16 @@ pub extern "C" fn card_fault_values(
 {
     let mut ws = inbytes::card_room();
     let mut x = inbytes::vector_room();
-    let mut list = hostfaults::faults_room();
+    let mut numbers = hostfaults::faults_room();
     let mut out = layout::graph_table();
-    let n = inbytes::read_words(card, &mut ws);
-    let k = inbytes::read_words(vector, &mut x);
-    let m = hostfaults::read_faults(faults, &mut list);
-    let end = plain::fault_values_with(
-        &ws[..n],
-        card.len() % 4,
-        &x[..k],
-        vector.len() % 4,
-        &list[..m],
-        faults.len() % 4,
-        values.len() / 4,
-        &mut out,
-    );
+    let m = hostfaults::read_faults(faults, &mut numbers);
+    let list = Lent {
+        words: &numbers[..m],
+        extra: faults.len() % 4,
+    };
+    let card = inbytes::read(card, &mut ws);
+    let vector = inbytes::read(vector, &mut x);
+    let end = plain::fault_values_with(card, vector, list, values.len() / 4, &mut out);
     inbytes::answer(end, &out, values)
 }
 
@@ -72,17 +70,9 @@ pub extern "C" fn card_change_list(card: &[u8], vector: &[u8], graph: u32, list:
     let mut ws = inbytes::card_room();
     let mut x = inbytes::vector_room();
     let mut out = layout::graph_table();
-    let n = inbytes::read_words(card, &mut ws);
-    let k = inbytes::read_words(vector, &mut x);
-    let end = changes::change_list_with(
-        &ws[..n],
-        card.len() % 4,
-        &x[..k],
-        vector.len() % 4,
-        graph,
-        list.len() / 4,
-        &mut out,
-    );
+    let card = inbytes::read(card, &mut ws);
+    let vector = inbytes::read(vector, &mut x);
+    let end = changes::change_list_with(card, vector, graph, list.len() / 4, &mut out);
     inbytes::answer(end, &out, list)
 }
 
@@ -95,16 +85,9 @@ pub extern "C" fn card_critical_nodes(card: &[u8], vector: &[u8], nodes: &mut [u
     let mut ws = inbytes::card_room();
     let mut x = inbytes::vector_room();
     let mut out = layout::node_table();
-    let n = inbytes::read_words(card, &mut ws);
-    let k = inbytes::read_words(vector, &mut x);
-    let end = changes::critical_nodes_with(
-        &ws[..n],
-        card.len() % 4,
-        &x[..k],
-        vector.len() % 4,
-        nodes.len() / 4,
-        &mut out,
-    );
+    let card = inbytes::read(card, &mut ws);
+    let vector = inbytes::read(vector, &mut x);
+    let end = changes::critical_nodes_with(card, vector, nodes.len() / 4, &mut out);
     inbytes::answer(end, &out, nodes)
 }
 
@@ -123,13 +106,10 @@ pub extern "C" fn card_grade(
     let mut ws = inbytes::card_room();
     let mut out = layout::fault_table();
     let mut more = layout::fault_table();
-    let none = [0u32; 1];
-    let n = inbytes::read_words(card, &mut ws);
+    let card = inbytes::read(card, &mut ws);
     let end = grade::grade_with(
-        &ws[..n],
-        card.len() % 4,
-        &none[..0],
-        vectors,
+        card,
+        VectorList::Bytes(vectors),
         marks.len() / 4,
         tallies.len() / 4,
         &mut out,
@@ -148,19 +128,10 @@ pub extern "C" fn card_join(a: &[u8], b: &[u8], wires: &[u8], card: &mut [u8]) -
     let mut wb = inbytes::card_room();
     let mut ws = inbytes::wires_room();
     let mut out = layout::card_table();
-    let n = inbytes::read_words(a, &mut wa);
-    let m = inbytes::read_words(b, &mut wb);
-    let k = inbytes::read_words(wires, &mut ws);
-    let end = join::join_with(
-        &wa[..n],
-        a.len() % 4,
-        &wb[..m],
-        b.len() % 4,
-        &ws[..k],
-        wires.len() % 4,
-        card.len() / 4,
-        &mut out,
-    );
+    let a = inbytes::read(a, &mut wa);
+    let b = inbytes::read(b, &mut wb);
+    let wires = inbytes::read(wires, &mut ws);
+    let end = join::join_with(a, b, wires, card.len() / 4, &mut out);
     inbytes::answer(end, &out, card)
 }
 
@@ -171,7 +142,7 @@ pub extern "C" fn card_from_gates(gates: &[u8], card: &mut [u8]) -> u64
 {
     let mut ws = inbytes::card_room();
     let mut out = layout::card_table();
-    let n = inbytes::read_words(gates, &mut ws);
-    let end = gates::to_card_with(&ws[..n], gates.len() % 4, card.len() / 4, &mut out);
+    let gates = inbytes::read(gates, &mut ws);
+    let end = gates::to_card_with(gates, card.len() / 4, &mut out);
     inbytes::answer(end, &out, card)
 }

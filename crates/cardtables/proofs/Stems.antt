@@ -4,9 +4,7 @@ use mathlib.Core.Path.{◌≡◌, refl, sym, ap, ◌∙◌}
 use mathlib.Core.List.{List}
 use mathlib.Core.Bool.{Bool, true, false, not, ◌||◌}
 use native.Mathlib.Omega.{arith}
-use native.Mathlib.Decide.{ℕ_discrete}
-use lib.ListN.{length, get_or, set, length-set}
-use lib.Seq.{get_or-set_same, get_or-set_other}
+use lib.ListN.{length, get_or}
 use lib.Dec.{eqb}
 use borrow.Author.Tests.{eq-eqb, eqb-true, lt-ltb, le-ltb}
 use Rattle.lists.specs.Counting.{choose, count}
@@ -103,25 +101,12 @@ pub record GradedSites (ws : List ℕ) (c : Counts) (n : ℕ) (t u : List ℕ) :
   pub kept : (i : ℕ) → i < 34848 → get_or u i 0 ≡ get_or t i 0
   pub sites : (p : ℕ) → p < n → get_or u (grade_of p) 0 ≡ choose (site_in_grade ws c p) 1 0
 
-pub none-graded : {ws t : List ℕ} {c : Counts} → GradedSites ws c 0 t t
-none-graded = record { long = refl; kept = λ i l. refl; sites = λ p l. absurd (omega arith) }
-
 module _ {ws t u : List ℕ} {c : Counts} {n : ℕ} (k : GradedSites ws c n t u) where
   pub ready-kept : Ready ws c t → Ready ws c u
   ready-kept y = record { shape = y.shape; long = rw k.long y.long; table = λ g l. k.kept g (omega (arith, y.shape.few-graphs)) ∙ y.table g l }
 
   pub noted-kept : {q : ℕ → ℕ} {m : ℕ} → Noted ws q m t → Noted ws q m u
   noted-kept d = noted-same (λ i h l. k.kept i l) d
-
-  pub graded-more : {y : List ℕ} {w : ℕ} → grade_of n < length u → w ≡ choose (site_in_grade ws c n) 1 0 → y ≡ set u (grade_of n) w → GradedSites ws c (n + 1) t y
-  graded-more {y} {w} l e v = record {
-    long = rw (v, length-set) k.long;
-    kept = λ i h. rw v (get_or-set_other u (grade_of n) i w 0 (λ z. omega arith)) ∙ k.kept i h;
-    sites = λ p h. elim (ℕ_discrete p n) [
-      | yes z ↦ rw (z, v) (get_or-set_same u (grade_of n) w 0 l ∙ e)
-      | no z ↦ rw v (get_or-set_other u (grade_of n) (grade_of p) w 0 (λ q. z (omega arith))) ∙ k.sites p (omega arith)
-    ];
-  }
 
 -- as many faults count as twice the words that are 1
 pub total-is : {ws t : List ℕ} {c : Counts} {n : ℕ} → n ≡ 2 * count (λ p. eqb (get_or t (grade_of p) 0) 1) (c.nodes + c.graphs) → Tabled ws c t → n ≡ total ws c

@@ -93,10 +93,8 @@ fn note_graph(card: &[u32], firsts: &[u32], h: usize, tables: &mut [u32])
 {
     let first = layout::first_node(firsts, h);
     let n = layout::graph_size(firsts, h);
-    let mut k = 0;
-    while k < n {
+    for k in 0..n {
         note_node(card, h, first + k, tables);
-        k += 1;
     }
 }
 
@@ -105,10 +103,8 @@ fn note_readers(card: &[u32], c: Counts, firsts: &[u32], tables: &mut [u32])
     requires { Ready card.now c firsts.now × (grade_from ≤ length tables.old) × Noted card.now (read_by card.now c) 0 tables.old }
     ensures { Noted card.now (read_by card.now c) c.nodes tables.new }
 {
-    let mut h = 0;
-    while h < c.graphs {
+    for h in 0..c.graphs {
         note_graph(card, firsts, h, tables);
-        h += 1;
     }
 }
 
@@ -143,12 +139,9 @@ fn grade_sites(card: &[u32], c: Counts, tables: &mut [u32])
     requires { Ready card.now c tables.old × Noted card.now (read_by card.now c) c.nodes tables.old × (tables_length ≤ length tables.old) }
     ensures { Tabled card.now c tables.new }
 {
-    let n = c.nodes + c.graphs;
-    let mut p = 0;
-    while p < n {
+    for p in 0..c.nodes + c.graphs {
         let word = grade_word(card, c, tables, p);
         lists::put(tables, GRADE + p, word);
-        p += 1;
     }
 }
 
@@ -159,29 +152,13 @@ pub fn grade_words() -> usize
     GRADE
 }
 
-// How many faults of a site count, by its word.
-fn faults_at(word: u32) -> usize
-    ensures { result ≡ 2 * choose (eqb word 1) 1 0 }
-{
-    if word == 1 {
-        return 2;
-    }
-    0
-}
-
 // How many faults count in the grade.
 pub fn total(c: Counts, tables: &[u32]) -> usize
     requires { (tables_length ≤ length tables.now) × (c.nodes + c.graphs ≤ max_sites) }
     ensures { (ws : List ℕ) → Tabled ws c tables.now → result ≡ total ws c }
 {
-    let sites = c.nodes + c.graphs;
-    let mut n = 0;
-    let mut p = 0;
-    while p < sites {
-        n += faults_at(lists::get(tables, GRADE + p));
-        p += 1;
-    }
-    n
+    let sites = &tables[GRADE..GRADE + c.nodes + c.graphs];
+    2 * sites.iter().filter(|w| **w == 1).count()
 }
 
 // The tables of an accepted card.

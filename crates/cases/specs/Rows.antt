@@ -1,11 +1,9 @@
 -- What a row of a table of cases says: what the calls give, by the definitions that their contracts cite; and for a case and a grading, that the marking
 -- rules of document 01 give the same. Assumes nothing.
-use Rattle.std.specs.Prelude.{ℕ, ◌+◌, ◌-◌, ◌*◌, ◌/◌, ◌%◌, ◌≡◌, List, [], map, Bool, not, ◌&&◌, ◌||◌, length, ltb, leb, eqb}
+use Rattle.std.specs.Prelude.{ℕ, ◌+◌, ◌-◌, ◌*◌, ◌/◌, ◌%◌, ◌≡◌, List, [], map, Bool, not, ◌&&◌, ◌||◌, length, ltb, leb, eqb, Ok}
 use Rattle.lists.specs.Counting.{choose}
 use Rattle.lists.specs.Tables.{at, tab, chosen}
 use Rattle.answers.specs.declared.Counts.{Counts}
-use Rattle.answers.specs.declared.Answer.TheVariants.{Accepted}
-use Rattle.answers.specs.declared.Reply.TheVariants.{Done}
 use Rattle.answers.specs.Calls.{whole, Outcome}
 use Rattle.answers.specs.Told.{Told, refusal, reply_told}
 use Rattle.form.specs.Check.{checked}
@@ -83,7 +81,7 @@ refused_as call number position = refused (record { call = call; told = refusal 
 
 -- a call that is done, tells the number and gives its buffers the words ws and vs
 abbrev pub done_both : ℕ → List ℕ → List ℕ → Outcome
-done_both number ws vs = record { reply = Done number; words = ws; more = vs }
+done_both number ws vs = record { reply = Ok number; words = ws; more = vs }
 
 abbrev pub done : ℕ → List ℕ → Outcome
 done number ws = done_both number ws []
@@ -117,7 +115,7 @@ CaseHolds r =
     let x = r.under in
     let G = c.graphs in
     let N = c.nodes in
-    (checked ws ≡ Accepted c)
+    (checked ws ≡ Ok c)
     × (good_outcome (whole ws) (whole x) G ≡ done 0 r.values)
     × (map (λ g. change_outcome (whole ws) (whole x) g G) (numbers G) ≡ map (λ l. done (length l) l) r.changes)
     × (critical_outcome (whole ws) (whole x) N ≡ done 0 r.critical)
@@ -135,7 +133,7 @@ GradingHolds r =
     let F = c.faults in
     let n = vectors c.inputs xs in
     let marks : ℕ → ℕ → Bool = λ f t. by_rule5 ws c (vector c.inputs xs t) f in
-    (checked ws ≡ Accepted c)
+    (checked ws ≡ Ok c)
     × (grade_outcome (whole ws) (whole xs) F (F + 1) ≡ done_both r.marked r.marks r.tallies)
     × (total ws c ≡ r.total)
     × (chosen (λ f. not (in_grade ws c f)) F ≡ r.left_out)
@@ -148,8 +146,8 @@ abbrev pub FunctionHolds : Function → Type 0
 FunctionHolds r =
     let ws = r.card in
     let G = r.counts.graphs in
-    (checked ws ≡ Accepted r.counts)
-    × (map (λ x. (good_outcome (whole ws) (whole x) G).reply) r.under ≡ map (λ x. Done 0) r.under)
+    (checked ws ≡ Ok r.counts)
+    × (map (λ x. (good_outcome (whole ws) (whole x) G).reply) r.under ≡ map (λ x. Ok 0) r.under)
     × (map (λ x. at (good_outcome (whole ws) (whole x) G).words r.graph) r.under ≡ map (λ x. flag (r.computes (λ i. eqb (bit x i) 1))) r.under)
 
 -- values with faults hold by the check and by the call, whose buffer has a word more than it needs
@@ -158,7 +156,7 @@ FaultedHolds r =
     let ws = r.card in
     let x = r.under in
     let n = r.counts.graphs + 1 in
-    (checked ws ≡ Accepted r.counts)
+    (checked ws ≡ Ok r.counts)
     × (fault_outcome (whole ws) (whole x) (whole r.faults) n ≡ done 0 r.values)
 
 -- a refusal holds by the call, which gives its buffers no word

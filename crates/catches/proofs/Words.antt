@@ -16,19 +16,9 @@ use Rattle.catches.specs.Caught.{caught_at}
 use Rattle.catches.specs.Detections.{Detections}
 use Rattle.catches.specs.Words.{Cleared, Along}
 
--- a run of words that become 2, one by one
+-- a run of no words that become 2
 pub clear_none : (a : ℕ) (xs : List ℕ) → Cleared a a xs xs
 clear_none a xs = record { long = refl; inside = λ j p q. absurd (omega arith); outside = λ j n. refl }
-
-pub clear-more : {a b : ℕ} {xs ys zs : List ℕ} → Cleared a b xs ys → a ≤ b → b < length ys → zs ≡ set ys b 2 → Cleared a (b + 1) xs zs
-clear-more {a} {b} {xs} {ys} s l m z = rw z (record {
-  long = simp length-set s.long;
-  inside = λ j p q. elim (ℕ_discrete j b) [
-    | yes e ↦ rw e (get_or-set_same ys b 2 0 m)
-    | no n ↦ get_or-set_other ys b j 2 0 n ∙ s.inside j p (omega arith)
-  ];
-  outside = λ j n. get_or-set_other ys b j 2 0 (λ e. n (omega arith) (omega arith)) ∙ s.outside j (λ p q. n p (omega arith));
-})
 
 module _ {ws : List ℕ} {c : Counts} {g : ℕ} where
   -- the nodes of a graph, as the table of first nodes gives them

@@ -57,26 +57,14 @@ fn catch_path(card: &[u32], c: Counts, tables: &[u32], values: &[u32], g: usize,
     }
 }
 
-// The words from one site on, up to another, become 2: nothing is caught there.
-fn clear(caught: &mut [u32], from: usize, to: usize)
-    requires { (from ≤ to) × (to ≤ length caught.old) }
-    ensures { Cleared from to caught.old caught.new }
-{
-    let mut j = from;
-    while j < to {
-        lists::put(caught, j, 2);
-        j += 1;
-    }
-}
-
-// The words of all nodes of graph g become 2.
+// The words of all nodes of graph g become 2: nothing is caught there.
 fn clear_nodes(tables: &[u32], g: usize, caught: &mut [u32])
     requires { (g + 1 < length tables.now) × (get_or tables.now g 0 ≤ get_or tables.now (g + 1) 0) × (get_or tables.now (g + 1) 0 ≤ length caught.old) }
     ensures { Cleared (get_or tables.now g 0) (get_or tables.now (g + 1) 0) caught.old caught.new }
 {
     let first = layout::first_node(tables, g);
     let next = layout::first_node(tables, g + 1);
-    clear(caught, first, next);
+    caught[first..next].fill(2);
 }
 
 // All nodes of graph g; `alters` says whether the graph is critical. Where it is not, nothing is caught at them; an input has none.
@@ -175,9 +163,7 @@ pub fn catch_vector(
 {
     sweep::sweep(card, c, tables, vector, values);
     change::copy_values(c, values, walk);
-    let mut g = c.graphs;
-    while 0 < g {
-        g -= 1;
+    for g in (0..c.graphs).rev() {
         catch_graph(card, c, tables, values, g, walk, caught);
     }
 }

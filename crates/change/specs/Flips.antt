@@ -1,10 +1,6 @@
 -- What a change walk keeps in its buffer. No contract of a call cites it. Assumes nothing.
 use Rattle.std.specs.Prelude.{ℕ, ◌<◌, ◌≤◌, ◌≡◌, List, length, get_or}
 
--- the words of a buffer below h are 0 or 1
-abbrev pub BitsBelow : ℕ → List ℕ → Type 0
-BitsBelow h xs = (i : ℕ) → i < h → get_or xs i 0 < 2
-
 -- the first n words of a buffer are those of v
 pub record Has (v : ℕ → ℕ) (n : ℕ) (xs : List ℕ) : Type 0 where
   pub long : n ≤ length xs

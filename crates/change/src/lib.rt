@@ -3,32 +3,13 @@
 
 ghost use Rattle.std.specs.Prelude.{◌≡◌, List, ℕ, ◌+◌, ◌≤◌, ◌<◌, length, get_or};
 ghost use Rattle.lists.specs.Tables.{over};
-ghost use Rattle.layout.specs.Layout.{size};
-ghost use Rattle.layout.specs.Tables.{Ready, Walkable};
+ghost use Rattle.layout.specs.Tables.{Ready};
 ghost use Rattle.value.specs.Settings.{good};
-ghost use Rattle.value.specs.Values.{walk, taken, value};
+ghost use Rattle.value.specs.Values.{value};
 ghost use Rattle.rules.specs.Rules.{flipped};
-ghost use Rattle.change.specs.Flips.{BitsBelow, Has, Between};
+ghost use Rattle.change.specs.Flips.{Has, Between};
 
 use answers::Counts;
-
-// The value of output graph h where the graphs have the values of the buffer, 0 or 1 each: its walk from the entrance. Exit e leads to local node e - 2, and
-// so the walk starts as if exit 2 had been taken.
-pub fn walk_graph(card: &[u32], tables: &[u32], h: usize, flips: &[u32]) -> u32
-    requires { Walkable card.now tables.now h × (0 < size card.now h) × (h ≤ length flips.now) }
-    ensures { BitsBelow h flips.now → result ≡ walk (taken card.now good (λ g. get_or flips.now g 0) h) (size card.now h) 0 }
-{
-    let first = layout::first_node(tables, h);
-    let mut e = 2;
-    loop {
-        let j = first + (e - 2);
-        let d = layout::decision(card, h, j, flips, 0);
-        e = layout::exit_at(card, h, j, d);
-        if e < 2 {
-            return e as u32;
-        }
-    }
-}
 
 // Graph h in the change walk of a lower graph: an input stays, and an output is walked again.
 fn flip_at(card: &[u32], c: Counts, tables: &[u32], h: usize, flips: &mut [u32])
@@ -39,7 +20,7 @@ fn flip_at(card: &[u32], c: Counts, tables: &[u32], h: usize, flips: &mut [u32])
     if h < c.inputs {
         return;
     }
-    let v = walk_graph(card, tables, h, flips);
+    let v = value::walk_graph(card, tables, h, flips).value;
     lists::put(flips, h, v);
 }
 
@@ -51,10 +32,8 @@ pub fn change(card: &[u32], c: Counts, tables: &[u32], g: usize, flips: &mut [u3
 {
     let own = lists::get(flips, g);
     lists::put(flips, g, 1 - own);
-    let mut h = g + 1;
-    while h < c.graphs {
+    for h in g + 1..c.graphs {
         flip_at(card, c, tables, h, flips);
-        h += 1;
     }
 }
 
@@ -63,10 +42,5 @@ pub fn copy_values(c: Counts, values: &[u32], flips: &mut [u32])
     requires { (c.nodes + c.graphs ≤ length values.now) × (c.graphs ≤ length flips.old) }
     ensures { flips.new ≡ over c.graphs (λ h. get_or values.now (c.nodes + h) 0) flips.old }
 {
-    let mut h = 0;
-    while h < c.graphs {
-        let own = lists::get(values, c.nodes + h);
-        lists::put(flips, h, own);
-        h += 1;
-    }
+    flips[..c.graphs].copy_from_slice(&values[c.nodes..c.nodes + c.graphs]);
 }

@@ -13,7 +13,7 @@ use Rattle.lists.specs.Tables.{chosen, front}
 use Rattle.lists.proofs.Counting.{count-le}
 use Rattle.lists.proofs.Tables.{length-chosen, front-more}
 use Rattle.answers.specs.declared.Counts.{Counts}
-use Rattle.answers.specs.declared.Verdict.TheVariants.{Sound}
+use Rattle.std.specs.Prelude.{Ok}
 use Rattle.answers.specs.Tests.{first_broken}
 use Rattle.answers.proofs.Tests.{all-passed}
 use Rattle.rules.specs.Rules.{flipped, listed}
@@ -39,12 +39,12 @@ pub listed-is : {ws x values flips : List ℕ} {c : Counts} (g : ℕ) → Swept 
 listed-is g s f h l = rw (f.word h l, s.graphs h l)
 
 -- a call that passes its tests: its graph is one of the card's, and it has room
-pub change-room : (g room : ℕ) (c : Counts) → first_broken (change_tests g room c) ≡ Sound → (g < c.graphs) × (c.graphs ≤ room)
+pub change-room : (g room : ℕ) (c : Counts) → first_broken (change_tests g room c) ≡ Ok tt → (g < c.graphs) × (c.graphs ≤ room)
 unfolding change_tests
 change-room g room c e =
     let p = all-passed (change_tests g room c) e in
     (leb-false c.graphs g p.0, ltb-false room c.graphs p.1.0)
 
-pub critical-room : (room : ℕ) (c : Counts) → first_broken (critical_tests room c) ≡ Sound → c.nodes ≤ room
+pub critical-room : (room : ℕ) (c : Counts) → first_broken (critical_tests room c) ≡ Ok tt → c.nodes ≤ room
 unfolding critical_tests
 critical-room room c e = ltb-false room c.nodes (all-passed (critical_tests room c) e).0

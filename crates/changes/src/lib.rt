@@ -9,12 +9,12 @@ ghost use Rattle.answers.specs.Tests.{first_broken};
 ghost use Rattle.layout.specs.Shape.{Shape};
 ghost use Rattle.testvectors.specs.Vectors.{width};
 ghost use Rattle.detect.specs.Detects.{changes, critical_at};
-ghost use Rattle.answers.specs.Calls.{lent, whole, ByWords};
+ghost use Rattle.answers.specs.Calls.{lends, whole, ByWords};
 ghost use Rattle.answers.specs.Ends.{EndsAs};
 ghost use Rattle.changes.specs.Calls.{change_tests, change_outcome, critical_tests, critical_outcome};
 ghost use Rattle.changes.specs.Appended.{Appended};
 
-use answers::{Answer, Counts, Ended, Reply, Rule, Verdict};
+use answers::{Counts, Done, Lent, Refusal, Rule};
 
 // Number h follows the n numbers at the front of a list, if it is to.
 fn append(list: &mut [u32], n: usize, h: usize, differs: bool) -> usize
@@ -35,15 +35,13 @@ fn list_changes(c: Counts, values: &[u32], flips: &[u32], list: &mut [u32]) -> u
         × (list.new ≡ front (chosen (λ h. not (eqb (get_or flips.now h 0) (get_or values.now (c.nodes + h) 0))) c.graphs) list.old) }
 {
     let mut n = 0;
-    let mut h = 0;
-    while h < c.graphs {
+    for h in 0..c.graphs {
         n = append(
             list,
             n,
             h,
             lists::get(flips, h) != lists::get(values, c.nodes + h),
         );
-        h += 1;
     }
     n
 }
@@ -71,55 +69,52 @@ pub fn work_out_changes(
 }
 
 // The tests of a change list after the form of its vector, for a buffer of `room` words: the graph's number, and the room.
-pub fn test_change(c: Counts, graph: u32, room: usize) -> Verdict
+pub fn test_change(c: Counts, graph: u32, room: usize) -> Result<(), Refusal>
     ensures { result ≡ first_broken (change_tests graph room c) }
 {
     if c.graphs <= graph as usize {
-        return Verdict::Broken(Rule::NumberTooHigh, 0);
+        return Err(Refusal(Rule::NumberTooHigh, 0));
     }
     if room < c.graphs {
-        return Verdict::Broken(Rule::BufferTooShort, 0);
+        return Err(Refusal(Rule::BufferTooShort, 0));
     }
-    Verdict::Sound
+    Ok(())
 }
 
 // The change list of a graph: its length, and the numbers rising in the front of `list`, for a buffer of `room` words.
 pub fn change_list_with(
-    card: &[u32],
-    extra: usize,
-    vector: &[u32],
-    left: usize,
+    card: Lent<'_>,
+    vector: Lent<'_>,
     graph: u32,
     room: usize,
     list: &mut [u32],
-) -> Ended
+) -> Result<Done, Refusal>
     requires { min room max_graphs ≤ length list.old }
-    ensures { EndsAs (change_outcome (lent card.now extra) (lent vector.now left) graph room)
+    ensures { EndsAs (change_outcome (lends card.entry) (lends vector.entry) graph room)
         room result list.old list.new }
 {
-    match opening::open_vector(card, extra, vector, left) {
-        Answer::Refused(rule, position) => answers::refused(rule, position),
-        Answer::Accepted(c) => {
-            if let Verdict::Broken(rule, position) = test_change(c, graph, room) {
-                return answers::refused(rule, position);
-            }
-            let n = work_out_changes(card, c, vector, graph as usize, list);
-            Ended {
-                reply: Reply::Done(n),
-                words: n,
-                more: 0,
-            }
-        }
-    }
+    let c = opening::open_vector(card, vector)?;
+    test_change(c, graph, room)?;
+    let n = work_out_changes(card.words, c, vector.words, graph as usize, list);
+    Ok(Done {
+        number: n,
+        words: n,
+        more: 0,
+    })
 }
 
 // The same by words, for the whole of a buffer.
-pub fn change_list(card: &[u32], vector: &[u32], graph: u32, list: &mut [u32]) -> Reply
+pub fn change_list(
+    card: &[u32],
+    vector: &[u32],
+    graph: u32,
+    list: &mut [u32],
+) -> Result<usize, Refusal>
     ensures { ByWords (change_outcome (whole card.now) (whole vector.now) graph)
         result list.old list.new }
 {
-    let end = change_list_with(card, 0, vector, 0, graph, list.len(), list);
-    end.reply
+    let (card, vector) = (Lent::whole(card), Lent::whole(vector));
+    change_list_with(card, vector, graph, list.len(), list).map(|done| done.number)
 }
 
 // 1 where a fault is caught at a site, else 0.
@@ -137,10 +132,8 @@ fn flag_sites(caught: &[u32], n: usize, nodes: &mut [u32])
     requires { (n ≤ length caught.now) × (n ≤ length nodes.old) }
     ensures { nodes.new ≡ over n (λ j. choose (ltb (get_or caught.now j 0) 2) 1 0) nodes.old }
 {
-    let mut j = 0;
-    while j < n {
-        nodes[j] = is_caught(lists::get(caught, j));
-        j += 1;
+    for (j, node) in nodes[..n].iter_mut().enumerate() {
+        *node = is_caught(lists::get(caught, j));
     }
 }
 
@@ -166,49 +159,41 @@ pub fn work_out_critical(card: &[u32], c: Counts, vector: &[u32], nodes: &mut [u
 }
 
 // The tests of critical nodes after the form of their vector, for a buffer of `room` words: the room alone.
-pub fn test_critical(c: Counts, room: usize) -> Verdict
+pub fn test_critical(c: Counts, room: usize) -> Result<(), Refusal>
     ensures { result ≡ first_broken (critical_tests room c) }
 {
     if room < c.nodes {
-        return Verdict::Broken(Rule::BufferTooShort, 0);
+        return Err(Refusal(Rule::BufferTooShort, 0));
     }
-    Verdict::Sound
+    Ok(())
 }
 
 // Critical nodes: one word for each node, 1 where forcing its other exit alters an observable graph, else 0; for a buffer of `room` words.
 pub fn critical_nodes_with(
-    card: &[u32],
-    extra: usize,
-    vector: &[u32],
-    left: usize,
+    card: Lent<'_>,
+    vector: Lent<'_>,
     room: usize,
     nodes: &mut [u32],
-) -> Ended
+) -> Result<Done, Refusal>
     requires { min room max_nodes ≤ length nodes.old }
-    ensures { EndsAs (critical_outcome (lent card.now extra) (lent vector.now left) room)
+    ensures { EndsAs (critical_outcome (lends card.entry) (lends vector.entry) room)
         room result nodes.old nodes.new }
 {
-    match opening::open_vector(card, extra, vector, left) {
-        Answer::Refused(rule, position) => answers::refused(rule, position),
-        Answer::Accepted(c) => {
-            if let Verdict::Broken(rule, position) = test_critical(c, room) {
-                return answers::refused(rule, position);
-            }
-            work_out_critical(card, c, vector, nodes);
-            Ended {
-                reply: Reply::Done(0),
-                words: c.nodes,
-                more: 0,
-            }
-        }
-    }
+    let c = opening::open_vector(card, vector)?;
+    test_critical(c, room)?;
+    work_out_critical(card.words, c, vector.words, nodes);
+    Ok(Done {
+        number: 0,
+        words: c.nodes,
+        more: 0,
+    })
 }
 
 // The same by words, for the whole of a buffer.
-pub fn critical_nodes(card: &[u32], vector: &[u32], nodes: &mut [u32]) -> Reply
+pub fn critical_nodes(card: &[u32], vector: &[u32], nodes: &mut [u32]) -> Result<usize, Refusal>
     ensures { ByWords (critical_outcome (whole card.now) (whole vector.now))
         result nodes.old nodes.new }
 {
-    let end = critical_nodes_with(card, 0, vector, 0, nodes.len(), nodes);
-    end.reply
+    let (card, vector) = (Lent::whole(card), Lent::whole(vector));
+    critical_nodes_with(card, vector, nodes.len(), nodes).map(|done| done.number)
 }

@@ -2,7 +2,7 @@
 use Prim.Native.Nat.{ℕ, zero, suc, ◌+◌, ◌-◌, ◌/◌, ◌<◌, ◌≤◌}
 use mathlib.Core.Path.{◌≡◌, refl, sym, ap, ◌∙◌}
 use mathlib.Core.List.{List}
-use mathlib.Core.Bool.{Bool, true, false, true≢false, false≢true}
+use mathlib.Core.Bool.{true, false, true≢false, false≢true}
 use native.Mathlib.Omega.{arith}
 use native.Mathlib.Decide.{ℕ_discrete, dec_lt}
 use lib.ListN.{length, get_or, set, length-set}
@@ -23,7 +23,8 @@ use Rattle.value.specs.Values.{walk, taken, value}
 use Rattle.rules.specs.Rules.{flipped, listed}
 use Rattle.rules.proofs.Changes.{flipped_below, flipped-here, good-bit}
 use Rattle.rules.proofs.Stopped.{stopped-upto, stopped-beyond}
-use Rattle.change.specs.Flips.{BitsBelow, Has}
+use Rattle.value.specs.Buffers.{BitsBelow}
+use Rattle.change.specs.Flips.{Has}
 use Rattle.change.proofs.Laws.{flip-input, flip-output}
 use Rattle.critical.specs.Walking.{list_from, due_from, Hidden, Lists, Entries, Upto, Walking, Stepped, walk_ends}
 use Rattle.critical.proofs.WalkEnd.{reads-good, stops}
@@ -77,9 +78,6 @@ hidden-first {ws} o z = record { hidden = λ e b. let q : e ≡ 0 = omega arith 
 -- whether the walk ends
 pub walk-ends-not : (ws : List ℕ) (h n r : ℕ) → n ≡ r → false ≡ walk_ends ws h n r
 walk-ends-not ws h n r e = rw (eq-eqb n r e)
-
-pub walk-ends-by : (ws : List ℕ) (h n r : ℕ) {b : Bool} → (n ≡ r → ⊥) → b ≡ observable ws h → b ≡ walk_ends ws h n r
-walk-ends-by ws h n r o e = rw (ne_eqb n r o) e
 
 -- a graph that reads h is due once h's readers are
 is-due : {ws t : List ℕ} {c : Counts} → Tabled ws c t → (zs : List ℕ) (h j k : ℕ) → ((j : ℕ) → h ≤ j → j < c.graphs → member t (readers_of h) j ≤ member zs due_from j)

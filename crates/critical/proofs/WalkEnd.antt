@@ -21,7 +21,6 @@ use Rattle.rules.specs.Rules.{flipped, listed, critical}
 use Rattle.rules.specs.Stopped.{stopped}
 use Rattle.rules.proofs.Changes.{good-solves, flipped-gives, listed-flipped}
 use Rattle.rules.proofs.Stopped.{stopped-upto, stopped-last}
-use Rattle.change.specs.Flips.{Has}
 use Rattle.critical.specs.Walking.{list_from, Entries, Stops, Upto, Walking, But}
 
 -- the change walk of graph g
@@ -116,6 +115,3 @@ back_more {v} {G} {e} {n} {i} {own} {xs} {ys} s few z b o q =
         ]))
       ];
     }
-
-pub back-all : {v : ℕ → ℕ} {G e n : ℕ} {xs : List ℕ} → But v G e n xs → n ≤ e → Has v G xs
-back-all s l = record { long = s.long; word = λ i b. s.word i b (λ k u r. absurd (omega arith)) }

@@ -76,7 +76,7 @@ fn step(card: &[u32], c: Counts, tables: &[u32], h: usize, n: usize, walk: &mut 
     if h < c.inputs {
         return n;
     }
-    let v = change::walk_graph(card, tables, h, walk);
+    let v = value::walk_graph(card, tables, h, walk).value;
     let own = lists::get(walk, h);
     if v == own {
         return n;
@@ -126,12 +126,10 @@ fn put_back(c: Counts, values: &[u32], n: usize, walk: &mut [u32])
     ensures { (v : ℕ → ℕ) → ((i : ℕ) → i < c.graphs → get_or values.now (c.nodes + i) 0 ≡ v i)
         → But v c.graphs 0 n walk.old → Has v c.graphs walk.new }
 {
-    let mut e = 0;
-    while e < n {
+    for e in 0..n {
         let i = lists::get(walk, LIST + e) as usize;
         let own = lists::get(values, c.nodes + i);
         lists::put(walk, i, own);
-        e += 1;
     }
 }
 

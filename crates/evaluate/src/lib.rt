@@ -95,9 +95,7 @@ pub fn work_out(card: &[u32], c: Counts, vector: &[u32], faults: &[u32], values:
     let mut firsts = layout::first_table();
     layout::first_nodes(card, c, &mut firsts);
     let mut saved = unknown();
-    let mut g = 0;
-    while g < c.graphs {
-        values[g] = graph_value(card, c, &firsts, vector, faults, g, &mut saved);
-        g += 1;
+    for (g, v) in values[..c.graphs].iter_mut().enumerate() {
+        *v = graph_value(card, c, &firsts, vector, faults, g, &mut saved);
     }
 }

@@ -15,8 +15,7 @@ use Rattle.lists.proofs.Counting.{count_next, count-le}
 use Rattle.word32.specs.Fields.{kind, node_count, read_graph, exit_of}
 use Rattle.answers.specs.declared.Rule.TheVariants.{WordNotDue, NothingObservable}
 use Rattle.answers.specs.declared.Counts.{Counts}
-use Rattle.answers.specs.declared.Verdict.TheVariants.{Sound}
-use Rattle.answers.specs.declared.Answer.TheVariants.{Accepted}
+use Rattle.std.specs.Prelude.{Ok}
 use Rattle.answers.specs.Tests.{test, first_broken}
 use Rattle.form.specs.Check.{counts, card_length, with_graph, header_verdict, word, read_verdict, exits_verdict, nodes_verdict, graph_verdict, ended, rest, long_tests, checked_with}
 use Rattle.layout.specs.Layout.{first, header, is_input, observable, size, reads, exits}
@@ -61,15 +60,15 @@ module _ (ws : List ℕ) (c : Counts) (s : Shape ws c) where
   more : (P : ℕ → Type 0) → ((g : ℕ) → g < c.graphs → P g) → P c.graphs → (g : ℕ) → g < c.graphs + 1 → P g
   more P f q g h = elim (ℕ_discrete g c.graphs) [ yes e ↦ rw e q | no n ↦ f g (omega arith) ]
 
-  module _ (fits : card_length c < length ws) (e : graph_verdict ws c ≡ Sound) where
-    parts : (header_verdict w c ≡ Sound) × (nodes_verdict ws c.graphs (card_length c) (node_count w) (node_count w) 0 ≡ Sound)
+  module _ (fits : card_length c < length ws) (e : graph_verdict ws c ≡ Ok tt) where
+    parts : (header_verdict w c ≡ Ok tt) × (nodes_verdict ws c.graphs (card_length c) (node_count w) (node_count w) 0 ≡ Ok tt)
     unfolding graph_verdict
     parts =
         let (h, e') = then-sound (header_verdict w c) _ e in
         (h, (then-sound (nodes_verdict ws c.graphs (card_length c) (node_count w) (node_count w) 0) _ e').0)
 
     node-sound : (k : ℕ) → k < node_count w
-        → (read_verdict ws c.graphs (card_length c + 1 + 2 * k) ≡ Sound) × (exits_verdict ws (node_count w) k (card_length c + 2 + 2 * k) ≡ Sound)
+        → (read_verdict ws c.graphs (card_length c + 1 + 2 * k) ≡ Ok tt) × (exits_verdict ws (node_count w) k (card_length c + 2 + 2 * k) ≡ Ok tt)
     node-sound k l = nodes-sound ws c.graphs (card_length c) (node_count w) (node_count w) 0 parts.1 k (omega arith) (omega arith)
 
     -- the last node's exits stand inside the words
@@ -141,17 +140,17 @@ module _ {ws : List ℕ} {c : Counts} (s : Shape ws c) where
   ]
 
   -- the words end there
-  ended-accepts : (extra : ℕ) (d : Counts) → length ws ≤ card_length c → ended ws extra c ≡ Accepted d → Accepts ws d
+  ended-accepts : (extra : ℕ) (d : Counts) → length ws ≤ card_length c → ended ws extra c ≡ Ok d → Accepts ws d
   ended-accepts extra d l e =
       let last = test (ltb 0 extra) WordNotDue (length ws) ∷ test (eqb c.observable 0) NothingObservable (length ws) ∷ [] in
-      let (v, a) = onward-accepts (first_broken last) (Accepted c) d e in
+      let (v, a) = onward-accepts (first_broken last) (Ok c) d e in
       let some : 0 < c.observable = omega (arith, eqb-false c.observable 0 (all-passed last v).1.0) in
       let same : d ≡ c = cc in
       rw same (record { shape = s; long = omega (arith, s.fits); some-observable = some; some-input = has-input (omega (arith, few-observable)) })
 
 -- the graphs from the place due on
 module _ (ws : List ℕ) (extra : ℕ) (d : Counts) where
-  rest-accepts : (left : ℕ) (c : Counts) → Shape ws c → rest ws extra left c ≡ Accepted d → Accepts ws d
+  rest-accepts : (left : ℕ) (c : Counts) → Shape ws c → rest ws extra left c ≡ Ok d → Accepts ws d
   unfolding rest
   rest-accepts zero c s e = let z : ◌≡◌ {A = ℕ} 0 1 = cc in absurd (omega arith)
   rest-accepts (suc left) c s e = elim (dec_le (length ws) (card_length c)) [
@@ -162,7 +161,7 @@ module _ (ws : List ℕ) (extra : ℕ) (d : Counts) where
         rest-accepts left (with_graph (word ws (card_length c)) c) (graph-step ws c s l v) e'
   ]
 
-pub check-accepts : (ws : List ℕ) (extra : ℕ) (c : Counts) → checked_with ws extra ≡ Accepted c → Accepts ws c
+pub check-accepts : (ws : List ℕ) (extra : ℕ) (c : Counts) → checked_with ws extra ≡ Ok c → Accepts ws c
 unfolding checked_with
 check-accepts ws extra c e =
     rest-accepts ws extra c 1025 (counts 0 0 0 0) (none_read ws)
@@ -173,12 +172,12 @@ pub some-inputs : {ws : List ℕ} {c : Counts} → Accepts ws c → (0 < c.input
 some-inputs a = omega (arith, a.some-input, a.shape.inputs_in, a.shape.few-graphs)
 
 -- a card that is accepted has no bytes after its words
-ended-whole : (ws : List ℕ) (extra : ℕ) (c d : Counts) → ended ws extra c ≡ Accepted d → extra ≡ 0
+ended-whole : (ws : List ℕ) (extra : ℕ) (c d : Counts) → ended ws extra c ≡ Ok d → extra ≡ 0
 ended-whole ws extra c d e =
     let last = test (ltb 0 extra) WordNotDue (length ws) ∷ test (eqb c.observable 0) NothingObservable (length ws) ∷ [] in
-    omega (arith, ltb-false 0 extra (all-passed last (onward-accepts (first_broken last) (Accepted c) d e).0).0)
+    omega (arith, ltb-false 0 extra (all-passed last (onward-accepts (first_broken last) (Ok c) d e).0).0)
 
-rest-whole : (ws : List ℕ) (extra : ℕ) (d : Counts) (left : ℕ) (c : Counts) → rest ws extra left c ≡ Accepted d → extra ≡ 0
+rest-whole : (ws : List ℕ) (extra : ℕ) (d : Counts) (left : ℕ) (c : Counts) → rest ws extra left c ≡ Ok d → extra ≡ 0
 unfolding rest
 rest-whole ws extra d zero c e = let z : ◌≡◌ {A = ℕ} 0 1 = cc in absurd (omega arith)
 rest-whole ws extra d (suc left) c e = elim (dec_le (length ws) (card_length c)) [
@@ -188,10 +187,10 @@ rest-whole ws extra d (suc left) c e = elim (dec_le (length ws) (card_length c))
       rest-whole ws extra d left (with_graph (word ws (card_length c)) c) (onward-accepts (graph_verdict ws c) _ d (rw (lt-leb (length ws) (card_length c) l) at e)).1
 ]
 
-no-leftover : (ws : List ℕ) (extra : ℕ) (c : Counts) → checked_with ws extra ≡ Accepted c → extra ≡ 0
+no-leftover : (ws : List ℕ) (extra : ℕ) (c : Counts) → checked_with ws extra ≡ Ok c → extra ≡ 0
 unfolding checked_with
 no-leftover ws extra c e =
     rest-whole ws extra c 1025 (counts 0 0 0 0) (onward-accepts (first_broken (long_tests ws)) _ c e).1
 
-pub whole-accepted : (ws : List ℕ) (extra : ℕ) (c : Counts) → checked_with ws extra ≡ Accepted c → checked_with ws 0 ≡ Accepted c
+pub whole-accepted : (ws : List ℕ) (extra : ℕ) (c : Counts) → checked_with ws extra ≡ Ok c → checked_with ws 0 ≡ Ok c
 whole-accepted ws extra c e = ap (checked_with ws) (sym (no-leftover ws extra c e)) ∙ e

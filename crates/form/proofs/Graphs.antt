@@ -11,8 +11,7 @@ use Rattle.lists.proofs.Tests.{agree, some_same}
 use Rattle.lists.specs.Counting.{count, some_below}
 use Rattle.answers.specs.declared.Rule.TheVariants.{TooManyGraphs, NodeNotNamed}
 use Rattle.answers.specs.declared.Counts.{Counts}
-use Rattle.answers.specs.declared.Verdict.TheVariants.{Sound}
-use Rattle.answers.specs.declared.Answer.TheVariants.{Accepted}
+use Rattle.std.specs.Prelude.{Ok}
 use Rattle.answers.specs.Tests.{Test, test, first_broken}
 use Rattle.answers.proofs.Tests.{Passed, then-sound, sound-then, all-passed, passed-sound}
 use Rattle.word32.specs.Fields.{kind, header_spare, read_spare, node_count, read_graph}
@@ -24,17 +23,17 @@ use Rattle.form.proofs.Checked.{check-accepts}
 use Rattle.form.proofs.Sound.{up_to, accepted-sound}
 
 -- a word due, a read, and exits that stand in another card already
-pub due-sound : (ws : List ℕ) (p k : ℕ) (ts : List Test) → p < length ws → kind (word ws p) ≡ k → Passed ts → first_broken (due_tests ws p k ts) ≡ Sound
+pub due-sound : (ws : List ℕ) (p k : ℕ) (ts : List Test) → p < length ws → kind (word ws p) ≡ k → Passed ts → first_broken (due_tests ws p k ts) ≡ Ok tt
 due-sound ws p k ts l e t = passed-sound (due_tests ws p k ts) (lt-leb (length ws) p l, (agree (kind (word ws p)) k e, t))
 
-read-sound : (ws : List ℕ) (g p : ℕ) → Read ws g p → read_verdict ws g p ≡ Sound
+read-sound : (ws : List ℕ) (g p : ℕ) → Read ws g p → read_verdict ws g p ≡ Ok tt
 unfolding read_verdict
 read-sound ws g p r =
     due-sound ws p 3 (read_tests g (word ws p) p) r.there r.due
     (agree (read_spare (word ws p)) 0 r.clean, (lt-leb g (read_graph (word ws p)) r.lower, tt))
 
-pub exits-same : (ws js : List ℕ) (n k p q : ℕ) → exits_verdict ws n k p ≡ Sound → q < length js → word js q ≡ word ws p
-    → exits_verdict js n k q ≡ Sound
+pub exits-same : (ws js : List ℕ) (n k p q : ℕ) → exits_verdict ws n k p ≡ Ok tt → q < length js → word js q ≡ word ws p
+    → exits_verdict js n k q ≡ Ok tt
 unfolding exits_verdict
 exits-same ws js n k p q e l z =
     let (i, (d, t)) = exits-told ws n k p e in
@@ -42,8 +41,8 @@ exits-same ws js n k p q e l z =
 
 -- nodes are sound where each one is
 nodes-all : (ws : List ℕ) (g p n left k : ℕ)
-    → ((i : ℕ) → k ≤ i → i < k + left → (read_verdict ws g (p + 1 + 2 * i) ≡ Sound) × (exits_verdict ws n i (p + 2 + 2 * i) ≡ Sound))
-    → nodes_verdict ws g p n left k ≡ Sound
+    → ((i : ℕ) → k ≤ i → i < k + left → (read_verdict ws g (p + 1 + 2 * i) ≡ Ok tt) × (exits_verdict ws n i (p + 2 + 2 * i) ≡ Ok tt))
+    → nodes_verdict ws g p n left k ≡ Ok tt
 unfolding nodes_verdict node_verdict
 nodes-all ws g p n zero k h = refl
 nodes-all ws g p n (suc left) k h =
@@ -80,7 +79,7 @@ pub record Output (ws : List ℕ) (g : ℕ) : Type 0 where
   pub some : 0 < size ws g
   pub total : first ws g + size ws g ≤ 4096
   pub reading : (k : ℕ) → k < size ws g → Read ws g (read_place ws g k)
-  pub leaving : (k : ℕ) → k < size ws g → exits_verdict ws (size ws g) k (exits_at ws g k) ≡ Sound
+  pub leaving : (k : ℕ) → k < size ws g → exits_verdict ws (size ws g) k (exits_at ws g k) ≡ Ok tt
   pub named : unnamed ws (card_length (up_to ws g)) (size ws g) ≡ false
 
 module _ (ws : List ℕ) (g : ℕ) where
@@ -90,7 +89,7 @@ module _ (ws : List ℕ) (g : ℕ) where
   abbrev name_tests : List Test
   name_tests = test (unnamed ws (card_length c) (size ws g)) NodeNotNamed (card_length c) ∷ []
 
-  pub output-told : is_input ws g ≡ false → graph_verdict ws c ≡ Sound → Output ws g
+  pub output-told : is_input ws g ≡ false → graph_verdict ws c ≡ Ok tt → Output ws g
   unfolding graph_verdict is_input size
   output-told z e =
       let (h, e') = then-sound (header_verdict (header ws g) c) _ e in
@@ -108,7 +107,7 @@ module _ (ws : List ℕ) (g : ℕ) where
         named = (all-passed name_tests u).0;
       }
 
-  pub output-sound : Output ws g → graph_verdict ws c ≡ Sound
+  pub output-sound : Output ws g → graph_verdict ws c ≡ Ok tt
   unfolding graph_verdict header_verdict size
   output-sound o =
       sound-then (sound-then (passed-sound (test (leb 1024 g) TooManyGraphs (card_length c) ∷ []) (lt-leb 1024 g o.few, tt))
@@ -125,10 +124,10 @@ module _ (ws : List ℕ) (g : ℕ) where
       (passed-sound name_tests (o.named, tt)))
 
   -- an input, whose word is 0, comes after inputs alone
-  pub input-sound : g < 1024 → header ws g ≡ 0 → count (is_input ws) g ≡ g → graph_verdict ws c ≡ Sound
+  pub input-sound : g < 1024 → header ws g ≡ 0 → count (is_input ws) g ≡ g → graph_verdict ws c ≡ Ok tt
   unfolding graph_verdict header_verdict nodes_verdict unnamed some_below
   input-sound l z n = rw (z, lt-leb 1024 g l, n, le-ltb g g (omega arith))
 
 -- the outputs of an accepted card
-pub accepted-output : {ws : List ℕ} {c : Counts} → checked ws ≡ Accepted c → (g : ℕ) → c.inputs ≤ g → g < c.graphs → Output ws g
+pub accepted-output : {ws : List ℕ} {c : Counts} → checked ws ≡ Ok c → (g : ℕ) → c.inputs ≤ g → g < c.graphs → Output ws g
 accepted-output {ws} {c} e g m l = output-told ws g ((check-accepts ws 0 c e).shape.output g l m).0 ((accepted-sound ws e).1 g l)

@@ -12,8 +12,9 @@ use Rattle.word32.specs.Fields.{kind, read_spare, exits_spare, node_count, read_
 use Rattle.answers.specs.declared.Rule.{Rule}
 use Rattle.answers.specs.declared.Rule.TheVariants.{TooManyGraphs, WordNotDue, StrayBit, ReadNotBelow, ExitNotLater, NodeNotNamed, NothingObservable}
 use Rattle.answers.specs.declared.Counts.{Counts}
-use Rattle.answers.specs.declared.Answer.{Answer}
-use Rattle.answers.specs.declared.Answer.TheVariants.{Accepted, Refused}
+use Rattle.std.specs.Prelude.{Ok, Err}
+use Rattle.answers.specs.Answers.{Answer, stands_at}
+use Rattle.answers.specs.declared.Refusal.{Refusal}
 use Rattle.answers.specs.Tests.{test, unless, first_broken}
 use Rattle.answers.proofs.Tests.{all-passed}
 use Rattle.answers.proofs.Positions.{Low, LowAnswer, unless-low, tests-low, then-low, onward-low}
@@ -66,7 +67,7 @@ module _ (n : ℕ) (ws : List ℕ) (short : length ws ≤ n) where
       let l : card_length c ≤ n = omega arith in
       let end = test (ltb 0 extra) WordNotDue (length ws) ∷ test (eqb c.observable 0) NothingObservable (length ws) ∷ [] in
       either-low (leb (length ws) (card_length c)) _ _
-      (onward-low n (first_broken end) (Accepted c) (tests-low n end (short, (short, tt))) (λ e. tt))
+      (onward-low n (first_broken end) (Ok c) (tests-low n end (short, (short, tt))) (λ e. tt))
       (onward-low n (graph_verdict ws c) _ (graph-low c l)
       (λ e. rest-low extra left (with_graph (word ws (card_length c)) c) (omega arith)))
 
@@ -81,5 +82,5 @@ pub check-low : (ws : List ℕ) (extra : ℕ) → LowAnswer 4294967295 (checked_
 check-low ws extra = check-within 4294967295 (omega arith) ws extra
 
 -- so it can be counted on from another card's words
-pub check-position : (ws : List ℕ) (extra : ℕ) {r : Rule} {p : ℕ} → checked_with ws extra ≡ Refused r p → p ≤ 134348800
+pub check-position : (ws : List ℕ) (extra : ℕ) {r : Refusal} → checked_with ws extra ≡ Err r → stands_at r ≤ 134348800
 check-position ws extra e = let q = rw e at (check-within 134348800 (omega arith) ws extra) in q

@@ -11,8 +11,7 @@ use borrow.Author.Tests.{le-ltb, le-leb, lt-leb, ne_eqb}
 use Rattle.lists.specs.Counting.{count}
 use Rattle.answers.specs.declared.Rule.TheVariants.{WordNotDue, NothingObservable}
 use Rattle.answers.specs.declared.Counts.{Counts}
-use Rattle.answers.specs.declared.Verdict.TheVariants.{Sound}
-use Rattle.answers.specs.declared.Answer.TheVariants.{Accepted}
+use Rattle.std.specs.Prelude.{Ok}
 use Rattle.answers.specs.Tests.{test, first_broken}
 use Rattle.answers.proofs.Tests.{passed-sound, onward-accepts, accepts-onward}
 use Rattle.form.specs.Check.{counts, card_length, with_graph, graph_verdict, ended, rest, long_tests, checked_with, checked}
@@ -34,16 +33,16 @@ module _ (ws : List ℕ) where
 
   -- every graph from g on that an accepting check counts is sound
   abbrev AllSound : ℕ → Counts → Type 0
-  AllSound g c = (c ≡ up_to c.graphs) × ((h : ℕ) → g ≤ h → h < c.graphs → graph_verdict ws (up_to h) ≡ Sound)
+  AllSound g c = (c ≡ up_to c.graphs) × ((h : ℕ) → g ≤ h → h < c.graphs → graph_verdict ws (up_to h) ≡ Ok tt)
 
-  ended-sound : (extra g : ℕ) (d : Counts) → ended ws extra (up_to g) ≡ Accepted d → AllSound g d
+  ended-sound : (extra g : ℕ) (d : Counts) → ended ws extra (up_to g) ≡ Ok d → AllSound g d
   ended-sound extra g d e =
       let last = test (ltb 0 extra) WordNotDue (length ws) ∷ test (eqb (count (observable ws) g) 0) NothingObservable (length ws) ∷ [] in
-      let e' = (onward-accepts (first_broken last) (Accepted (up_to g)) d e).1 in
+      let e' = (onward-accepts (first_broken last) (Ok (up_to g)) d e).1 in
       let same : d ≡ up_to g = cc in
       rw same (refl, λ h l m. absurd (omega arith))
 
-  rest-sound : (extra left g : ℕ) (d : Counts) → rest ws extra left (up_to g) ≡ Accepted d → AllSound g d
+  rest-sound : (extra left g : ℕ) (d : Counts) → rest ws extra left (up_to g) ≡ Ok d → AllSound g d
   unfolding rest
   rest-sound extra zero g d e = let z : ◌≡◌ {A = ℕ} 0 1 = cc in absurd (omega arith)
   rest-sound extra (suc left) g d e = elim (dec_le (length ws) (card_length (up_to g))) [
@@ -54,8 +53,8 @@ module _ (ws : List ℕ) where
         (same, λ h l m. elim (ℕ_discrete h g) [ yes z ↦ rw z v | no o ↦ all h (omega arith) m ])
   ]
 
-  pub accepted-sound : {c : Counts} → checked ws ≡ Accepted c
-      → (c ≡ up_to c.graphs) × ((g : ℕ) → g < c.graphs → graph_verdict ws (up_to g) ≡ Sound)
+  pub accepted-sound : {c : Counts} → checked ws ≡ Ok c
+      → (c ≡ up_to c.graphs) × ((g : ℕ) → g < c.graphs → graph_verdict ws (up_to g) ≡ Ok tt)
   unfolding checked_with
   accepted-sound {c} e =
       let (same, all) = rest-sound 0 1025 0 c (sym (from-none 0 1025) ∙ (onward-accepts (first_broken (long_tests ws)) _ c e).1) in
@@ -63,8 +62,8 @@ module _ (ws : List ℕ) where
 
   -- and the other way: G sound graphs that are all words are a card
   module _ (G : ℕ) (long : length ws ≡ card_length (up_to G)) (some : 0 < count (observable ws) G)
-      (all : (g : ℕ) → g < G → graph_verdict ws (up_to g) ≡ Sound) where
-    rest-accepted : (d left g : ℕ) → g + d ≡ G → d < left → rest ws 0 left (up_to g) ≡ Accepted (up_to G)
+      (all : (g : ℕ) → g < G → graph_verdict ws (up_to g) ≡ Ok tt) where
+    rest-accepted : (d left g : ℕ) → g + d ≡ G → d < left → rest ws 0 left (up_to g) ≡ Ok (up_to G)
     unfolding rest
     rest-accepted d zero g e l = absurd (omega arith)
     rest-accepted zero (suc left) g e l =
@@ -76,7 +75,7 @@ module _ (ws : List ℕ) where
         rw (lt-leb (length ws) (card_length (up_to g)) (omega (arith, first_next ws g)), all g (omega arith), up_to-next g)
         (rest-accepted d left (suc g) z (omega arith))
 
-    pub sound-accepted : G ≤ 1024 → first ws G ≤ 4096 → checked ws ≡ Accepted (up_to G)
+    pub sound-accepted : G ≤ 1024 → first ws G ≤ 4096 → checked ws ≡ Ok (up_to G)
     unfolding checked_with
     sound-accepted few nodes =
         accepts-onward (passed-sound (long_tests ws) (le-ltb _ (length ws) (omega arith), tt))

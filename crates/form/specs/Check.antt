@@ -1,7 +1,7 @@
 -- What the check of a card answers: its counts, or the first rule that it breaks, and where.
 -- Document 01, 'The card's words' and 'Refused words'; each test stands beside its rule, in the paper's order. Assumes nothing.
 use Prim.Native.Nat.{ℕ, zero, suc, ◌+◌, ◌-◌, ◌*◌}
-use Rattle.std.specs.Prelude.{List, [], ◌∷◌, Bool, true, false, ◌&&◌, ◌||◌, length, get_or, ltb, leb, eqb}
+use Rattle.std.specs.Prelude.{List, [], ◌∷◌, Bool, true, false, ◌&&◌, ◌||◌, length, get_or, ltb, leb, eqb, Ok, Err}
 use Rattle.std.proofs.Math.Bool.{not}
 use Rattle.lists.specs.Counting.{choose, some_below}
 use Rattle.answers.specs.Calls.{Lent}
@@ -11,10 +11,7 @@ use Rattle.word32.specs.Fields.{kind, input_spare, header_spare, read_spare, exi
 use Rattle.answers.specs.declared.Rule.TheVariants.{CardTooLong, TooManyGraphs, NodeCount, WordNotDue, StrayBit, ReadNotBelow, ExitNotLater}
 use Rattle.answers.specs.declared.Rule.TheVariants.{NodeNotNamed, NothingObservable}
 use Rattle.answers.specs.declared.Counts.{Counts}
-use Rattle.answers.specs.declared.Verdict.{Verdict}
-use Rattle.answers.specs.declared.Verdict.TheVariants.{Sound}
-use Rattle.answers.specs.declared.Answer.{Answer}
-use Rattle.answers.specs.declared.Answer.TheVariants.{Accepted, Refused}
+use Rattle.answers.specs.Answers.{Verdict, Answer, refused}
 
 -- With N nodes and G graphs there are 2N + 2G faults.
 abbrev pub counts : ℕ → ℕ → ℕ → ℕ → Counts
@@ -87,7 +84,7 @@ module _ (ws : List ℕ) where
   -- the local nodes from k on, `left` in all
   unfoldable pub nodes_verdict : ℕ → ℕ → ℕ → ℕ → ℕ → Verdict
   unfolding node_verdict
-  nodes_verdict g p n zero k = Sound
+  nodes_verdict g p n zero k = Ok tt
   nodes_verdict g p n (suc left) k = and_then (node_verdict g p n k) (nodes_verdict g p n left (suc k))
 
   -- of the graph whose header stands at p: an exit of local node k names local node i; one of its n nodes does; no node names one of 1 to n - 1
@@ -114,7 +111,7 @@ module _ (ws : List ℕ) where
   ended extra c =
       onward
       (first_broken (test (ltb 0 extra) WordNotDue (length ws) ∷ test (eqb c.observable 0) NothingObservable (length ws) ∷ []))
-      (Accepted c)
+      (Ok c)
 
   abbrev pub either : Bool → Answer → Answer → Answer
   either true a b = a
@@ -123,7 +120,7 @@ module _ (ws : List ℕ) where
   -- the graphs from the place due on; the number bounds those to come, and 1,024 graphs at most are read
   unfoldable pub rest : ℕ → ℕ → Counts → Answer
   unfolding graph_verdict
-  rest extra zero c = Refused TooManyGraphs (card_length c)
+  rest extra zero c = Err (refused TooManyGraphs (card_length c))
   rest extra (suc left) c =
       either (leb (length ws) (card_length c)) (ended extra c)
       (onward (graph_verdict c) (rest extra left (with_graph (word (card_length c)) c)))

@@ -11,8 +11,7 @@ use lib.Dec.{ltb, leb, eqb}
 use borrow.Author.Tests.{le-leb, lt-leb, ne_eqb, eqb-true, eqb-false, not-false}
 use Rattle.answers.specs.declared.Rule.TheVariants.{StrayBit, ReadNotBelow, WordNotDue, NothingObservable}
 use Rattle.answers.specs.declared.Counts.{Counts}
-use Rattle.answers.specs.declared.Verdict.TheVariants.{Sound}
-use Rattle.answers.specs.declared.Answer.TheVariants.{Accepted}
+use Rattle.std.specs.Prelude.{Ok}
 use Rattle.answers.specs.Tests.{test, first_broken}
 use Rattle.answers.proofs.Tests.{then-sound, sound-then, onward-accepts, accepts-onward}
 use Rattle.word32.specs.Fields.{read_inverted, node_count, read_graph}
@@ -46,23 +45,23 @@ module _ (ws : List ℕ) where
       inverted-is g k ∙ ne_eqb (read_inverted (word ws (read_place ws g k))) 1 (λ z. omega (arith, clear g k l (rw (size_is g) at i)))
 
   -- the parts of a sound graph
-  graph-parts : (c : Counts) → graph_verdict ws c ≡ Sound
-      → (header_verdict (word ws (card_length c)) c ≡ Sound)
-      × (nodes_verdict ws c.graphs (card_length c) (node_count (word ws (card_length c))) (node_count (word ws (card_length c))) 0 ≡ Sound)
+  graph-parts : (c : Counts) → graph_verdict ws c ≡ Ok tt
+      → (header_verdict (word ws (card_length c)) c ≡ Ok tt)
+      × (nodes_verdict ws c.graphs (card_length c) (node_count (word ws (card_length c))) (node_count (word ws (card_length c))) 0 ≡ Ok tt)
   unfolding graph_verdict
   graph-parts c e =
       let n = node_count (word ws (card_length c)) in
       let (h, e') = then-sound (header_verdict (word ws (card_length c)) c) _ e in
       (h, (then-sound (nodes_verdict ws c.graphs (card_length c) n n 0) _ e').0)
 
-  node_of : (g p n k : ℕ) → (read_verdict ws (before ws g).graphs (p + 1 + 2 * k) ≡ Sound) × (exits_verdict ws n k (p + 2 + 2 * k) ≡ Sound)
-      → node_verdict ws g p n k ≡ Sound
+  node_of : (g p n k : ℕ) → (read_verdict ws (before ws g).graphs (p + 1 + 2 * k) ≡ Ok tt) × (exits_verdict ws n k (p + 2 + 2 * k) ≡ Ok tt)
+      → node_verdict ws g p n k ≡ Ok tt
   unfolding node_verdict
   node_of g p n k s = ap (λ (m : ℕ). node_verdict ws m p n k) (sym (graphs-are ws g)) ∙ sound-then s.0 s.1
 
   -- AN ACCEPTED CARD: the check comes to each of its reads, and to no other
-  module _ (extra : ℕ) {c : Counts} (e : checked_with ws extra ≡ Accepted c) where
-    all_sound : (g : ℕ) → g < c.graphs → graph_verdict ws (before ws g) ≡ Sound
+  module _ (extra : ℕ) {c : Counts} (e : checked_with ws extra ≡ Ok c) where
+    all_sound : (g : ℕ) → g < c.graphs → graph_verdict ws (before ws g) ≡ Ok tt
     all_sound g l = rw (before-is ws g) ((accepted-sound ws (whole-accepted ws extra c e)).1 g l)
 
     pub none-direct : NoneInverted ws → Direct ws c
@@ -94,7 +93,7 @@ module _ (ws : List ℕ) where
         ]
 
   -- WHAT THE FORMER CHECK FOUND SOUND is sound and direct: a read, the nodes from local node k on, a graph, all graphs from graph g on
-  read-sound : (g p : ℕ) → former_read ws g p ≡ Sound → (read_verdict ws g p ≡ Sound) × (read_inverted (word ws p) ≡ 0)
+  read-sound : (g p : ℕ) → former_read ws g p ≡ Ok tt → (read_verdict ws g p ≡ Ok tt) × (read_inverted (word ws p) ≡ 0)
   unfolding former_read
   read-sound g p e =
       let (l, (z, t)) = due-told ws p 3 (test (not (eqb (former_spare (word ws p)) 0)) StrayBit p ∷ test (leb g (read_graph (word ws p))) ReadNotBelow p ∷ []) e in
@@ -102,8 +101,8 @@ module _ (ws : List ℕ) where
       (read_same ws g p (λ d. direct) ∙ e, direct)
 
   module _ (g p n : ℕ) where
-    nodes-direct : (left k : ℕ) → former_nodes ws g p n left k ≡ Sound
-        → (nodes_verdict ws g p n left k ≡ Sound) × ((i : ℕ) → k ≤ i → i < k + left → read_inverted (word ws (p + 1 + 2 * i)) ≡ 0)
+    nodes-direct : (left k : ℕ) → former_nodes ws g p n left k ≡ Ok tt
+        → (nodes_verdict ws g p n left k ≡ Ok tt) × ((i : ℕ) → k ≤ i → i < k + left → read_inverted (word ws (p + 1 + 2 * i)) ≡ 0)
     unfolding former_nodes former_node nodes_verdict node_verdict
     nodes-direct zero k e = (refl, λ i l m. absurd (omega arith))
     nodes-direct (suc left) k e =
@@ -113,8 +112,8 @@ module _ (ws : List ℕ) where
         let (ss, ds) = nodes-direct left (suc k) later in
         (sound-then (sound-then s x) ss, λ i l m. elim (ℕ_discrete i k) [ yes z ↦ rw z d | no o ↦ ds i (omega arith) (omega arith) ])
 
-  graph-direct : (c : Counts) → former_graph ws c ≡ Sound
-      → (graph_verdict ws c ≡ Sound) × ((k : ℕ) → k < node_count (word ws (card_length c)) → read_inverted (word ws (card_length c + 1 + 2 * k)) ≡ 0)
+  graph-direct : (c : Counts) → former_graph ws c ≡ Ok tt
+      → (graph_verdict ws c ≡ Ok tt) × ((k : ℕ) → k < node_count (word ws (card_length c)) → read_inverted (word ws (card_length c + 1 + 2 * k)) ≡ 0)
   unfolding former_graph graph_verdict
   graph-direct c e =
       let n = node_count (word ws (card_length c)) in
@@ -123,8 +122,8 @@ module _ (ws : List ℕ) where
       let (s, d) = nodes-direct c.graphs (card_length c) n n 0 f in
       (sound-then h (sound-then s u), λ k l. d k (omega arith) (omega arith))
 
-  rest-direct : (extra left g : ℕ) (d : Counts) → former_rest ws extra left (before ws g) ≡ Accepted d
-      → (rest ws extra left (before ws g) ≡ Accepted d)
+  rest-direct : (extra left g : ℕ) (d : Counts) → former_rest ws extra left (before ws g) ≡ Ok d
+      → (rest ws extra left (before ws g) ≡ Ok d)
       × ((h k : ℕ) → g ≤ h → h < d.graphs → k < nodes_of ws h → read_inverted (word ws (read_place ws h k)) ≡ 0)
   unfolding rest former_rest before
   rest-direct extra zero g d e = let z : ◌≡◌ {A = ℕ} 0 1 = cc in absurd (omega arith)
@@ -132,7 +131,7 @@ module _ (ws : List ℕ) where
     | yes l ↦
         let q = rw (le-leb (length ws) (header_at ws g) l) at e in
         let last = test (ltb 0 extra) WordNotDue (length ws) ∷ test (eqb (before ws g).observable 0) NothingObservable (length ws) ∷ [] in
-        let (s, a) = onward-accepts (first_broken last) (Accepted (before ws g)) d q in
+        let (s, a) = onward-accepts (first_broken last) (Ok (before ws g)) d q in
         let same : d ≡ before ws g = cc in
         (rw (le-leb (length ws) (header_at ws g) l) q, λ h k i m. absurd (omega (arith, graphs-are ws g, ap (λ (c : Counts). c.graphs) same)))
     | no n ↦
@@ -146,7 +145,7 @@ module _ (ws : List ℕ) where
   ]
 
   -- A CARD THAT WAS ACCEPTED is accepted with the same counts, and has no inverted read
-  pub accepted-before : (extra : ℕ) {c : Counts} → former_checked_with ws extra ≡ Accepted c → (checked_with ws extra ≡ Accepted c) × Direct ws c
+  pub accepted-before : (extra : ℕ) {c : Counts} → former_checked_with ws extra ≡ Ok c → (checked_with ws extra ≡ Ok c) × Direct ws c
   unfolding checked_with former_checked_with before
   accepted-before extra {c} e =
       let (s, r) = onward-accepts (first_broken (long_tests ws)) _ c e in

@@ -6,9 +6,8 @@ use mathlib.Core.Bool.{Bool}
 use Rattle.lists.specs.Counting.{choose}
 use Rattle.lists.proofs.Tables.{tab-same}
 use Rattle.answers.specs.declared.Counts.{Counts}
-use Rattle.answers.specs.declared.Verdict.{Verdict}
-use Rattle.answers.specs.declared.Answer.{Answer}
-use Rattle.answers.specs.declared.Answer.TheVariants.{Accepted, Refused}
+use Rattle.std.specs.Prelude.{Ok, Err}
+use Rattle.answers.specs.Answers.{Verdict, Answer}
 use Rattle.answers.specs.Tests.{Test, first_broken}
 use Rattle.answers.specs.Calls.{Lent, Work, work, outcome_by, opened, outcome}
 use Rattle.answers.proofs.Calls.{opened-accepted, following-same}
@@ -53,11 +52,11 @@ module _ {ws : List ℕ} {c : Counts} (a : AsBefore ws c) where
   grade-same : (marks tallies : ℕ) (xs : List ℕ) → grade_work marks tallies ws xs c ≡ former_grade_work marks tallies ws xs c
   grade-same marks tallies xs = rw (a.counted xs, fun_ext (a.marks xs), fun_ext (a.tallies xs))
 
-accepted-same : (a : Answer) (f f' : Counts → List ℕ) → ((c : Counts) → a ≡ Accepted c → f c ≡ f' c) → if_accepted a f ≡ if_accepted a f'
-accepted-same (Accepted c) f f' same = same c refl
-accepted-same (Refused r p) f f' same = refl
+accepted-same : (a : Answer) (f f' : Counts → List ℕ) → ((c : Counts) → a ≡ Ok c → f c ≡ f' c) → if_accepted a f ≡ if_accepted a f'
+accepted-same (Ok c) f f' same = same c refl
+accepted-same (Err r) f f' same = refl
 
-all-before : (ws : List ℕ) (extra : ℕ) → NoneInverted ws → {c : Counts} → checked_with ws extra ≡ Accepted c → AsBefore ws c
+all-before : (ws : List ℕ) (extra : ℕ) → NoneInverted ws → {c : Counts} → checked_with ws extra ≡ Ok c → AsBefore ws c
 all-before ws extra none {c} e = direct-as-before (check-accepts ws extra c e).shape (none-direct ws extra e none)
 
 module _ (card : Lent) (none : NoneInverted card.words) where
@@ -93,8 +92,8 @@ module _ (card : Lent) (none : NoneInverted card.words) where
   }
 
 -- so of every card that is accepted and has no inverted read, and of every card that was accepted
-pub direct-calls : (card : Lent) {c : Counts} → lent_check card ≡ Accepted c → Direct card.words c → CallsAsBefore card
+pub direct-calls : (card : Lent) {c : Counts} → lent_check card ≡ Ok c → Direct card.words c → CallsAsBefore card
 direct-calls card e d = calls-as-before card (direct-none card.words card.extra e d)
 
-pub former-calls : (card : Lent) {c : Counts} → former_lent_check card ≡ Accepted c → CallsAsBefore card
+pub former-calls : (card : Lent) {c : Counts} → former_lent_check card ≡ Ok c → CallsAsBefore card
 former-calls card e = let (now, d) = accepted-before card.words card.extra e in direct-calls card now d

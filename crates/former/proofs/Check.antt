@@ -12,9 +12,8 @@ use borrow.Author.Tests.{ltb-false, le-leb, lt-leb, eq-eqb, ne_eqb}
 use Rattle.lists.specs.Counting.{count}
 use Rattle.answers.specs.declared.Rule.TheVariants.{StrayBit, ReadNotBelow, NodeNotNamed}
 use Rattle.answers.specs.declared.Counts.{Counts}
-use Rattle.answers.specs.declared.Verdict.{Verdict}
-use Rattle.answers.specs.declared.Verdict.TheVariants.{Sound, Broken}
-use Rattle.answers.specs.declared.Answer.{Answer}
+use Rattle.std.specs.Prelude.{Ok, Err}
+use Rattle.answers.specs.Answers.{Verdict, Answer}
 use Rattle.answers.specs.Tests.{test, first_broken, and_then, onward}
 use Rattle.answers.proofs.Tests.{all-passed}
 use Rattle.word32.specs.Fields.{kind, read_spare, read_inverted, read_graph}
@@ -27,13 +26,13 @@ use Rattle.former.specs.Check.{former_spare, former_read, former_node, former_no
 use Rattle.former.specs.Reads.{before, header_at, nodes_of, read_place, NoneInverted}
 
 -- what follows a verdict counts only where it is sound
-then_same : (u : Verdict) {v w : Verdict} → (u ≡ Sound → v ≡ w) → and_then u v ≡ and_then u w
-then_same Sound e = e refl
-then_same (Broken r p) e = refl
+then_same : (u : Verdict) {v w : Verdict} → (u ≡ Ok tt → v ≡ w) → and_then u v ≡ and_then u w
+then_same (Ok tt) e = e refl
+then_same (Err r) e = refl
 
-onward-same : (u : Verdict) {a b : Answer} → (u ≡ Sound → a ≡ b) → onward u a ≡ onward u b
-onward-same Sound e = e refl
-onward-same (Broken r p) e = refl
+onward-same : (u : Verdict) {a b : Answer} → (u ≡ Ok tt → a ≡ b) → onward u a ≡ onward u b
+onward-same (Ok tt) e = e refl
+onward-same (Err r) e = refl
 
 -- ONE READ: of a direct one bits 28..16 are zero where bits 28..17 are
 spare-direct : (w : ℕ) → read_inverted w ≡ 0 → eqb (read_spare w) 0 ≡ eqb (former_spare w) 0
@@ -70,10 +69,10 @@ module _ (ws : List ℕ) where
   more P n all here i l = elim (ℕ_discrete i n) [ yes z ↦ rw z here | no m ↦ all i (omega arith) ]
 
   -- THE NODES of graph g, whose header the check has come to and found sound
-  module _ (none : NoneInverted ws) (few : length ws ≤ 9216) (g : ℕ) (sound : (h : ℕ) → h < g → graph_verdict ws (before ws h) ≡ Sound)
-      (there : header_at ws g < length ws) (opens : header_verdict (word ws (header_at ws g)) (before ws g) ≡ Sound) where
+  module _ (none : NoneInverted ws) (few : length ws ≤ 9216) (g : ℕ) (sound : (h : ℕ) → h < g → graph_verdict ws (before ws h) ≡ Ok tt)
+      (there : header_at ws g < length ws) (opens : header_verdict (word ws (header_at ws g)) (before ws g) ≡ Ok tt) where
     abbrev SoundTo : ℕ → Type 0
-    SoundTo k = (i : ℕ) → i < k → node_verdict ws g (header_at ws g) (nodes_of ws g) i ≡ Sound
+    SoundTo k = (i : ℕ) → i < k → node_verdict ws g (header_at ws g) (nodes_of ws g) i ≡ Ok tt
 
     node-same : (k : ℕ) → k < nodes_of ws g → SoundTo k
         → node_verdict ws g (header_at ws g) (nodes_of ws g) k ≡ former_node ws g (header_at ws g) (nodes_of ws g) k
@@ -100,7 +99,7 @@ module _ (ws : List ℕ) where
 
   -- THE GRAPHS, from graph g on, where those before it are sound
   module _ (none : NoneInverted ws) (few : length ws ≤ 9216) where
-    graph_same : (g : ℕ) → ((h : ℕ) → h < g → graph_verdict ws (before ws h) ≡ Sound) → header_at ws g < length ws
+    graph_same : (g : ℕ) → ((h : ℕ) → h < g → graph_verdict ws (before ws h) ≡ Ok tt) → header_at ws g < length ws
         → graph_verdict ws (before ws g) ≡ former_graph ws (before ws g)
     unfolding graph_verdict former_graph
     graph_same g sound there =
@@ -110,7 +109,7 @@ module _ (ws : List ℕ) where
         ∙ nodes-same none few g sound there opens (nodes_of ws g) 0 (omega arith) (λ i l. absurd (omega arith))
         ∙ ap (λ (m : ℕ). former_nodes ws m (header_at ws g) (nodes_of ws g) (nodes_of ws g) 0) (sym (graphs-are g))))
 
-    rest-same : (extra left g : ℕ) → ((h : ℕ) → h < g → graph_verdict ws (before ws h) ≡ Sound)
+    rest-same : (extra left g : ℕ) → ((h : ℕ) → h < g → graph_verdict ws (before ws h) ≡ Ok tt)
         → rest ws extra left (before ws g) ≡ former_rest ws extra left (before ws g)
     unfolding rest former_rest before
     rest-same extra zero g sound = refl

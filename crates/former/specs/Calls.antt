@@ -6,7 +6,7 @@ use Rattle.std.specs.Prelude.{ℕ, ◌≡◌, List}
 use Rattle.lists.specs.Counting.{choose, count}
 use Rattle.lists.specs.Tables.{tab, chosen}
 use Rattle.answers.specs.declared.Counts.{Counts}
-use Rattle.answers.specs.declared.Answer.{Answer}
+use Rattle.answers.specs.Answers.{Answer}
 use Rattle.answers.specs.Tests.{Test}
 use Rattle.answers.specs.Calls.{Lent, Outcome, Work, work, opened, outcome}
 use Rattle.cardtables.specs.Stems.{total}

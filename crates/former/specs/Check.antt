@@ -2,16 +2,13 @@
 -- rule 5 at the read. As `form`'s Check, in which that one test moved; what does not come to a read is taken from there. No contract of a call cites these.
 -- Assumes nothing.
 use Prim.Native.Nat.{ℕ, zero, suc, ◌+◌, ◌*◌, ◌/◌, ◌%◌, ◌^◌}
-use Rattle.std.specs.Prelude.{List, [], ◌∷◌, not, length, leb, eqb}
+use Rattle.std.specs.Prelude.{List, [], ◌∷◌, not, length, leb, eqb, Ok, Err}
 use Rattle.answers.specs.Calls.{Lent}
 use Rattle.answers.specs.Limits.{max_graphs}
 use Rattle.answers.specs.Tests.{test, first_broken, and_then, onward}
 use Rattle.answers.specs.declared.Rule.TheVariants.{TooManyGraphs, StrayBit, ReadNotBelow, NodeNotNamed}
 use Rattle.answers.specs.declared.Counts.{Counts}
-use Rattle.answers.specs.declared.Verdict.{Verdict}
-use Rattle.answers.specs.declared.Verdict.TheVariants.{Sound}
-use Rattle.answers.specs.declared.Answer.{Answer}
-use Rattle.answers.specs.declared.Answer.TheVariants.{Refused}
+use Rattle.answers.specs.Answers.{Verdict, Answer, refused}
 use Rattle.word32.specs.Fields.{node_count, read_graph}
 use Rattle.form.specs.Check.{counts, card_length, with_graph, header_verdict, word, due_tests, exits_verdict, unnamed, ended, either, long_tests}
 
@@ -36,7 +33,7 @@ module _ (ws : List ℕ) where
 
   unfoldable pub former_nodes : ℕ → ℕ → ℕ → ℕ → ℕ → Verdict
   unfolding former_node
-  former_nodes g p n zero k = Sound
+  former_nodes g p n zero k = Ok tt
   former_nodes g p n (suc left) k = and_then (former_node g p n k) (former_nodes g p n left (suc k))
 
   -- the graph whose header stands at the place due
@@ -50,7 +47,7 @@ module _ (ws : List ℕ) where
   -- the graphs from the place due on, at most 1,024 in all
   unfoldable pub former_rest : ℕ → ℕ → Counts → Answer
   unfolding former_graph
-  former_rest extra zero c = Refused TooManyGraphs (card_length c)
+  former_rest extra zero c = Err (refused TooManyGraphs (card_length c))
   former_rest extra (suc left) c =
       either ws (leb (length ws) (card_length c)) (ended ws extra c)
       (onward (former_graph c) (former_rest extra left (with_graph (word ws (card_length c)) c)))

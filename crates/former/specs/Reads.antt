@@ -1,9 +1,8 @@
 -- THE READS THAT THE CHECK COMES TO, and a list of words in which none of these is inverted. The words may be a card or not: what stands after the first
 -- word that is refused is not come to, whatever its bits. No contract of a call cites these. Assumes nothing.
-use Rattle.std.specs.Prelude.{ℕ, zero, suc, ◌+◌, ◌*◌, ◌<◌, ◌≤◌, ◌≡◌, List, length}
+use Rattle.std.specs.Prelude.{ℕ, zero, suc, ◌+◌, ◌*◌, ◌<◌, ◌≤◌, ◌≡◌, List, length, Ok}
 use Rattle.answers.specs.Limits.{max_words}
 use Rattle.answers.specs.declared.Counts.{Counts}
-use Rattle.answers.specs.declared.Verdict.TheVariants.{Sound}
 use Rattle.word32.specs.Fields.{kind, node_count, read_inverted}
 use Rattle.form.specs.Check.{counts, card_length, with_graph, header_verdict, word, node_verdict, graph_verdict}
 
@@ -27,11 +26,11 @@ module _ (ws : List ℕ) where
   -- and counts more than k nodes; each of its nodes before k is sound; and the word due is a read, be it sound or not
   pub record ComesTo (g k : ℕ) : Type 0 where
     pub few : length ws ≤ max_words
-    pub graphs : (h : ℕ) → h < g → graph_verdict ws (before h) ≡ Sound
+    pub graphs : (h : ℕ) → h < g → graph_verdict ws (before h) ≡ Ok tt
     pub there : header_at g < length ws
-    pub header : header_verdict (word ws (header_at g)) (before g) ≡ Sound
+    pub header : header_verdict (word ws (header_at g)) (before g) ≡ Ok tt
     pub counted : k < nodes_of g
-    pub nodes : (i : ℕ) → i < k → node_verdict ws g (header_at g) (nodes_of g) i ≡ Sound
+    pub nodes : (i : ℕ) → i < k → node_verdict ws g (header_at g) (nodes_of g) i ≡ Ok tt
     pub read : kind (word ws (read_place g k)) ≡ 3
 
   -- NO READ THAT THE CHECK COMES TO IS INVERTED: its bit 16 is clear

@@ -12,9 +12,9 @@ use Rattle.word32.specs.Fields.{kind, lead_count}
 use Rattle.answers.specs.declared.Rule.{Rule}
 use Rattle.answers.specs.declared.Rule.TheVariants.{CardTooLong}
 use Rattle.answers.specs.declared.Counts.{Counts}
-use Rattle.answers.specs.declared.Verdict.{Verdict}
-use Rattle.answers.specs.declared.Verdict.TheVariants.{Sound, Broken}
-use Rattle.answers.specs.declared.Answer.TheVariants.{Refused}
+use Rattle.std.specs.Prelude.{Ok, Err}
+use Rattle.answers.specs.Answers.{Verdict, refused}
+use Rattle.answers.specs.declared.Refusal.{Refusal}
 use Rattle.answers.specs.Tests.{and_then}
 use Rattle.answers.proofs.Tests.{then-sound}
 use Rattle.form.specs.Check.{counts, word, with_graph, ended}
@@ -23,7 +23,7 @@ use Rattle.gatelist.proofs.Sound.{header-sound, header-few}
 use Rattle.cardcheck.specs.Graph.{Few}
 
 -- a verdict that is not sound is the whole
-pub stops : {r : Rule} {p : ℕ} (u v : Verdict) → u ≡ Broken r p → u ≡ and_then u v
+pub stops : {r : Refusal} (u v : Verdict) → u ≡ Err r → u ≡ and_then u v
 stops u v e = rw e
 
 -- the leads of a line after k of them
@@ -42,30 +42,30 @@ module _ (gs : List ℕ) (line n p : ℕ) where
         let q : suc (p + k) ≡ p + (k + 1) = omega arith in
         rw (m, q)
 
-    pub leads-go : lead_verdict gs line (p + k) ≡ Sound → leads_verdict gs line (n - k) (p + k) ≡ leads_verdict gs line (n - (k + 1)) (p + (k + 1))
+    pub leads-go : lead_verdict gs line (p + k) ≡ Ok tt → leads_verdict gs line (n - k) (p + k) ≡ leads_verdict gs line (n - (k + 1)) (p + (k + 1))
     leads-go e = next ∙ rw e
 
-    pub leads-stop : {r : Rule} {q : ℕ} → lead_verdict gs line (p + k) ≡ Broken r q → lead_verdict gs line (p + k) ≡ leads_verdict gs line (n - k) (p + k)
+    pub leads-stop : {r : Refusal} → lead_verdict gs line (p + k) ≡ Err r → lead_verdict gs line (p + k) ≡ leads_verdict gs line (n - k) (p + k)
     leads-stop e = stops _ _ e ∙ sym next
 
-  pub leads-end : (k : ℕ) → n ≤ k → leads_verdict gs line (n - k) (p + k) ≡ Sound
+  pub leads-end : (k : ℕ) → n ≤ k → leads_verdict gs line (n - k) (p + k) ≡ Ok tt
   unfolding leads_verdict
   leads-end k h = let z : n - k ≡ 0 = omega arith in rw z
 
 -- a line, by its header and its leads
 module _ (gs : List ℕ) (c : Counts) where
-  pub line-stop : {r : Rule} {q : ℕ} → header_verdict (word gs (gate_list_length c)) c ≡ Broken r q → header_verdict (word gs (gate_list_length c)) c ≡ line_verdict gs c
+  pub line-stop : {r : Refusal} → header_verdict (word gs (gate_list_length c)) c ≡ Err r → header_verdict (word gs (gate_list_length c)) c ≡ line_verdict gs c
   unfolding line_verdict
   line-stop e = stops _ _ e
 
-  pub line-go : header_verdict (word gs (gate_list_length c)) c ≡ Sound
+  pub line-go : header_verdict (word gs (gate_list_length c)) c ≡ Ok tt
       → leads_verdict gs c.graphs (lead_count (word gs (gate_list_length c))) (gate_list_length c + 1) ≡ line_verdict gs c
   unfolding line_verdict
   line-go e = rw (e, add-one)
 
 -- a list that is too long, and one that is not
 module _ (gs : List ℕ) (extra : ℕ) where
-  pub too_long : 9216 < length gs → Refused CardTooLong 0 ≡ gates_checked_with gs extra
+  pub too_long : 9216 < length gs → Err (refused CardTooLong 0) ≡ gates_checked_with gs extra
   unfolding gates_checked_with
   too_long h = rw (lt-ltb _ _ h)
 
@@ -83,11 +83,11 @@ module _ (gs : List ℕ) (extra : ℕ) (c : Counts) (few : c.graphs ≤ 1024) wh
   rest_end h = rw (more, le-leb _ _ h)
 
   module _ (h : gate_list_length c < length gs) where
-    pub rest-go : line_verdict gs c ≡ Sound → rest gs extra (1025 - c.graphs) c ≡ rest gs extra (1025 - (c.graphs + 1)) (with_graph (word gs (gate_list_length c)) c)
+    pub rest-go : line_verdict gs c ≡ Ok tt → rest gs extra (1025 - c.graphs) c ≡ rest gs extra (1025 - (c.graphs + 1)) (with_graph (word gs (gate_list_length c)) c)
     unfolding rest
     rest-go e = rw (more, lt-leb _ _ h, e)
 
-    pub rest-stop : {r : Rule} {q : ℕ} → line_verdict gs c ≡ Broken r q → rest gs extra (1025 - c.graphs) c ≡ Refused r q
+    pub rest-stop : {r : Refusal} → line_verdict gs c ≡ Err r → rest gs extra (1025 - c.graphs) c ≡ Err r
     unfolding rest
     rest-stop e = rw (more, lt-leb _ _ h, e)
 
@@ -126,10 +126,10 @@ module _ {gs : List ℕ} {extra : ℕ} {c : Counts} {at : ℕ} (y : Reading gs e
     inside : gate_list_length c < length gs
     inside = omega (arith, y.here)
 
-    pub reading-stop : {r : Rule} {q : ℕ} → line_verdict gs c ≡ Broken r q → rest gs extra 1025 (counts 0 0 0 0) ≡ Refused r q
+    pub reading-stop : {r : Refusal} → line_verdict gs c ≡ Err r → rest gs extra 1025 (counts 0 0 0 0) ≡ Err r
     reading-stop e = y.same ∙ rest-stop gs extra c y.lines inside e
 
-    pub reading-next : {w : ℕ} {d : Counts} → line_verdict gs c ≡ Sound → w ≡ word gs at → d ≡ with_graph w c → Reading gs extra d (gate_list_length d)
+    pub reading-next : {w : ℕ} {d : Counts} → line_verdict gs c ≡ Ok tt → w ≡ word gs at → d ≡ with_graph w c → Reading gs extra d (gate_list_length d)
     unfolding line_verdict
     reading-next {w} {d} e p q =
         let z : w ≡ word gs (gate_list_length c) = p ∙ ap (word gs) y.here in

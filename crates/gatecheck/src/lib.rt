@@ -7,7 +7,7 @@ ghost use Rattle.answers.specs.Tests.{first_broken};
 ghost use Rattle.form.specs.Check.{counts};
 ghost use Rattle.gatelist.specs.Form.{gate_list_length, wrong_gate, gate_tests, header_verdict, lead_verdict, leads_verdict, line_verdict, rest, gates_checked_with};
 
-use answers::{Answer, Counts, MAX_GRAPHS, MAX_NODES, MAX_WORDS, Rule, Verdict};
+use answers::{Counts, Lent, MAX_GRAPHS, MAX_NODES, MAX_WORDS, Refusal, Rule};
 
 // Whether no gate has function f with n leads.
 fn is_wrong_gate(f: u32, n: usize) -> bool
@@ -26,33 +26,33 @@ fn is_wrong_gate(f: u32, n: usize) -> bool
 }
 
 // A gate's header.
-fn check_gate(w: u32, at: usize, c: Counts) -> Verdict
+fn check_gate(w: u32, at: usize, c: Counts) -> Result<(), Refusal>
     requires { (at ≡ gate_list_length c) × (c.nodes ≤ max_nodes) }
     ensures { result ≡ first_broken (gate_tests w c) }
 {
     let n = word32::node_count(w);
     if 2 < word32::kind(w) {
-        return Verdict::Broken(Rule::WordNotDue, at);
+        return Err(Refusal(Rule::WordNotDue, at));
     }
     if word32::gate_spare(w) != 0 {
-        return Verdict::Broken(Rule::StrayBit, at);
+        return Err(Refusal(Rule::StrayBit, at));
     }
     if MAX_NODES < c.nodes + n {
-        return Verdict::Broken(Rule::NodeCount, at);
+        return Err(Refusal(Rule::NodeCount, at));
     }
     if is_wrong_gate(word32::gate_function(w), n) {
-        return Verdict::Broken(Rule::GateForm, at);
+        return Err(Refusal(Rule::GateForm, at));
     }
-    Verdict::Sound
+    Ok(())
 }
 
 // Any header.
-fn check_header(w: u32, at: usize, c: Counts) -> Verdict
+fn check_header(w: u32, at: usize, c: Counts) -> Result<(), Refusal>
     requires { (at ≡ gate_list_length c) × (c.nodes ≤ max_nodes) }
     ensures { result ≡ header_verdict w c }
 {
     if MAX_GRAPHS <= c.graphs {
-        return Verdict::Broken(Rule::TooManyGraphs, at);
+        return Err(Refusal(Rule::TooManyGraphs, at));
     }
     if word32::kind(w) == 0 {
         return cardcheck::check_input(w, at, c);
@@ -61,83 +61,67 @@ fn check_header(w: u32, at: usize, c: Counts) -> Verdict
 }
 
 // The word at p as a lead of a line.
-fn check_lead(gates: &[u32], line: usize, p: usize) -> Verdict
+fn check_lead(gates: &[u32], line: usize, p: usize) -> Result<(), Refusal>
     ensures { result ≡ lead_verdict gates.now line p }
 {
     if gates.len() <= p {
-        return Verdict::Broken(Rule::WordNotDue, gates.len());
+        return Err(Refusal(Rule::WordNotDue, gates.len()));
     }
     let w = lists::get(gates, p);
     if word32::kind(w) != 3 {
-        return Verdict::Broken(Rule::WordNotDue, p);
+        return Err(Refusal(Rule::WordNotDue, p));
     }
     if word32::header_spare(w) != 0 {
-        return Verdict::Broken(Rule::StrayBit, p);
+        return Err(Refusal(Rule::StrayBit, p));
     }
     if line <= word32::read_graph(w) {
-        return Verdict::Broken(Rule::LeadNotEarlier, p);
+        return Err(Refusal(Rule::LeadNotEarlier, p));
     }
-    Verdict::Sound
+    Ok(())
 }
 
 // The n leads of a line, from p on.
-fn check_leads(gates: &[u32], line: usize, n: usize, p: usize) -> Verdict
+fn check_leads(gates: &[u32], line: usize, n: usize, p: usize) -> Result<(), Refusal>
     requires { (n ≤ max_nodes) × (p ≤ max_words) }
     ensures { result ≡ leads_verdict gates.now line n p }
 {
-    let mut k = 0;
-    while k < n {
-        let lead = check_lead(gates, line, p + k);
-        let Verdict::Sound = lead else {
-            return lead;
-        };
-        k += 1;
+    for k in 0..n {
+        check_lead(gates, line, p + k)?;
     }
-    Verdict::Sound
+    Ok(())
 }
 
 // The line whose header stands at the place due.
-fn check_line(gates: &[u32], at: usize, c: Counts) -> Verdict
+fn check_line(gates: &[u32], at: usize, c: Counts) -> Result<(), Refusal>
     requires { (at ≡ gate_list_length c) × (at < length gates.now) × (length gates.now ≤ max_words) × (c.nodes ≤ max_nodes) }
     ensures { result ≡ line_verdict gates.now c }
 {
     let w = lists::get(gates, at);
-    let header = check_header(w, at, c);
-    let Verdict::Sound = header else {
-        return header;
-    };
+    check_header(w, at, c)?;
     check_leads(gates, c.graphs, word32::node_count(w), at + 1)
 }
 
 // All the words, and so many bytes after them that make no word.
-fn check_lines(gates: &[u32], extra: usize) -> Answer
+fn check_lines(gates: &[u32], extra: usize) -> Result<Counts, Refusal>
     requires { length gates.now ≤ max_words }
     ensures { result ≡ rest gates.now extra (max_graphs + 1) (counts 0 0 0 0) }
 {
-    let mut c = Counts {
-        inputs: 0,
-        graphs: 0,
-        nodes: 0,
-        observable: 0,
-        faults: 0,
-    };
+    let mut c = Counts::default();
     let mut at = 0;
     while at < gates.len() {
-        if let Verdict::Broken(rule, position) = check_line(gates, at, c) {
-            return Answer::Refused(rule, position);
-        }
+        check_line(gates, at, c)?;
         c = cardcheck::with_graph(lists::get(gates, at), c);
         at = c.graphs + c.nodes;
     }
     cardcheck::finish(gates.len(), extra, c)
 }
 
-// The check of a gate list whose words are followed by so many bytes that make no word.
-pub fn check_with(gates: &[u32], extra: usize) -> Answer
-    ensures { result ≡ gates_checked_with gates.now extra }
+// The check of a gate list as it is lent.
+pub fn check_lent(gates: Lent<'_>) -> Result<Counts, Refusal>
+    ensures { result ≡ gates_checked_with gates.entry.words.now gates.entry.extra }
 {
-    if MAX_WORDS < gates.len() {
-        return Answer::Refused(Rule::CardTooLong, 0);
+    if MAX_WORDS < gates.words.len() {
+        return Err(Refusal(Rule::CardTooLong, 0));
     }
-    check_lines(gates, extra)
+    check_lines(gates.words, gates.extra)
 }

@@ -13,8 +13,7 @@ use Rattle.lists.proofs.Counting.{count_same}
 use Rattle.word32.specs.Fields.{kind, exits_spare, lead_count, header_word}
 use Rattle.word32.proofs.Fields.{clear-before}
 use Rattle.answers.specs.declared.Counts.{Counts}
-use Rattle.answers.specs.declared.Verdict.TheVariants.{Sound}
-use Rattle.answers.specs.declared.Answer.TheVariants.{Accepted}
+use Rattle.std.specs.Prelude.{Ok}
 use Rattle.layout.specs.Layout.{first, is_input, observable, exits, inverts}
 use Rattle.value.specs.Direct.{Direct}
 use Rattle.form.specs.Check.{card_length, word, misplaced, exits_verdict, unnamed, names, graph_verdict, checked}
@@ -70,7 +69,7 @@ module _ {gs : List ℕ} {c : Counts} (a : AcceptsGates gs c) where
           lower = rw e (g.earlier k m);
         }
 
-    exits-good : (k : ℕ) → k < leads gs l → exits_verdict card (leads gs l) k (exits_at card l k) ≡ Sound
+    exits-good : (k : ℕ) → k < leads gs l → exits_verdict card (leads gs l) k (exits_at card l k) ≡ Ok tt
     unfolding exits_verdict exits
     exits-good k m =
         let e = exits-word a l h k m in
@@ -119,16 +118,16 @@ module _ {gs : List ℕ} {c : Counts} (a : AcceptsGates gs c) where
         }
 
   -- EACH GRAPH IS
-  input-graph : (l : ℕ) → l < c.graphs → input_line gs l ≡ true → graph_verdict card (up_to card l) ≡ Sound
+  input-graph : (l : ℕ) → l < c.graphs → input_line gs l ≡ true → graph_verdict card (up_to card l) ≡ Ok tt
   input-graph l h i =
       let (z, n) = a.input l h i in
       input-sound card l (omega (arith, a.few-lines)) (header_is a l h ∙ ap (λ (w : ℕ). header_word (kind w) (lead_count w)) z)
       (count_same (is_input card) (input_line gs) l (λ k m. (graph-of a k (omega arith)).input) ∙ n)
 
-  graph-sound : (l : ℕ) → l < c.graphs → graph_verdict card (up_to card l) ≡ Sound
+  graph-sound : (l : ℕ) → l < c.graphs → graph_verdict card (up_to card l) ≡ Ok tt
   graph-sound l h = by (input_line gs l) refl
     where
-      by : (b : Bool) → input_line gs l ≡ b → graph_verdict card (up_to card l) ≡ Sound
+      by : (b : Bool) → input_line gs l ≡ b → graph_verdict card (up_to card l) ≡ Ok tt
       by true i = input-graph l h i
       by false i = output-sound card l (gate-output l h (a.gate l h i))
 
@@ -141,13 +140,13 @@ module _ {gs : List ℕ} {c : Counts} (a : AcceptsGates gs c) where
       let i = count_same (is_input card) (input_line gs) c.graphs (λ l h. (graph-of a l h).input) in
       rw (i, first-is a c.graphs (omega arith), observable-are) (sym a.counted)
 
-  pub drawn-accepted : checked card ≡ Accepted c
+  pub drawn-accepted : checked card ≡ Ok c
   drawn-accepted =
       let n = first-is a c.graphs (omega arith) in
       sound-accepted card c.graphs (omega (arith, card-long a, n, a.leads-in))
       (omega (arith, observable-are, a.some-observable, ap (λ (d : Counts). d.observable) a.counted)) graph-sound
       a.few-lines (omega (arith, n, a.leads-in, a.few-leads))
-      ∙ ap Accepted counts-are
+      ∙ ap Ok counts-are
 
   -- and every read is direct; an input has none
   pub no-leads : (l : ℕ) → l < c.graphs → input_line gs l ≡ true → leads gs l ≡ 0

@@ -9,7 +9,7 @@ use borrow.Author.Tests.{ltb-false}
 use Rattle.word32.specs.Fields.{kind, lead_count, lead_spare, lead_line}
 use Rattle.answers.specs.declared.Rule.TheVariants.{TooManyGraphs, WordNotDue, StrayBit, NothingObservable, LeadNotEarlier}
 use Rattle.answers.specs.declared.Counts.{Counts}
-use Rattle.answers.specs.declared.Answer.TheVariants.{Accepted}
+use Rattle.std.specs.Prelude.{Ok}
 use Rattle.answers.specs.Tests.{test, first_broken}
 use Rattle.answers.proofs.Tests.{all-passed}
 use Rattle.form.specs.Check.{counts, with_graph, input_tests, word, long_tests}
@@ -48,7 +48,7 @@ module _ (n : ℕ) (gs : List ℕ) (short : length gs ≤ n) where
   rest-low extra (suc left) c h =
       let end = test (ltb 0 extra) WordNotDue (length gs) ∷ test (eqb c.observable 0) NothingObservable (length gs) ∷ [] in
       either-low n gs short (leb (length gs) (gate_list_length c)) _ _
-      (onward-low n (first_broken end) (Accepted c) (tests-low n end (short, (short, tt))) (λ e. tt))
+      (onward-low n (first_broken end) (Ok c) (tests-low n end (short, (short, tt))) (λ e. tt))
       (onward-low n (line_verdict gs c) _ (line_low c (omega arith)) (λ e. rest-low extra left (with_graph (word gs (gate_list_length c)) c) (omega arith)))
 
 -- THE CHECK's positions

@@ -7,7 +7,7 @@ use lib.Dec.{eqb}
 use Rattle.lists.proofs.Tests.{some_same}
 use Rattle.lists.proofs.Counting.{count_same}
 use Rattle.answers.specs.declared.Counts.{Counts}
-use Rattle.answers.specs.declared.Answer.TheVariants.{Accepted}
+use Rattle.std.specs.Prelude.{Ok}
 use Rattle.layout.specs.Layout.{observable}
 use Rattle.testvectors.specs.Vectors.{vectors, vector}
 use Rattle.value.specs.Settings.{Setting, Keeps, good, faulty}
@@ -49,7 +49,7 @@ module _ {gs : List ℕ} {c : Counts} (a : AcceptsGates gs c) where
   unfolding total
   drawn-total = count_same (in_grade card c) (fault_counts gs c) c.faults (drawn-counts a)
 
-pub drawn-as-gates : (gs : List ℕ) (extra : ℕ) {c : Counts} → gates_checked_with gs extra ≡ Accepted c → AsGates gs c
+pub drawn-as-gates : (gs : List ℕ) (extra : ℕ) {c : Counts} → gates_checked_with gs extra ≡ Ok c → AsGates gs c
 unfolding detected_by tally mark marked
 drawn-as-gates gs extra {c} e =
     let a = gates-check-accepts gs extra e in

@@ -15,8 +15,7 @@ use Rattle.lists.proofs.Counting.{count-le}
 use Rattle.word32.specs.Fields.{kind, input_spare, gate_function, lead_count, lead_spare, lead_line}
 use Rattle.answers.specs.declared.Rule.TheVariants.{TooManyGraphs, WordNotDue, StrayBit, NothingObservable, LeadNotEarlier}
 use Rattle.answers.specs.declared.Counts.{Counts}
-use Rattle.answers.specs.declared.Verdict.TheVariants.{Sound}
-use Rattle.answers.specs.declared.Answer.TheVariants.{Accepted}
+use Rattle.std.specs.Prelude.{Ok}
 use Rattle.answers.specs.Tests.{test, unless, first_broken}
 use Rattle.answers.proofs.Tests.{then-sound, all-passed, onward-accepts}
 use Rattle.form.specs.Check.{counts, with_graph, input_tests, word, ended, long_tests}
@@ -27,8 +26,8 @@ use Rattle.gatelist.specs.AcceptsGates.{Gate, AcceptsGates}
 use Rattle.gatelist.proofs.Lines.{lead-next}
 
 -- a sound header w
-module _ (w : ℕ) (c : Counts) (e : header_verdict w c ≡ Sound) where
-  pub header-sound : (c.graphs < 1024) × (unless (eqb (kind w) 0) (first_broken (input_tests w (gate_list_length c) c)) (first_broken (gate_tests w c)) ≡ Sound)
+module _ (w : ℕ) (c : Counts) (e : header_verdict w c ≡ Ok tt) where
+  pub header-sound : (c.graphs < 1024) × (unless (eqb (kind w) 0) (first_broken (input_tests w (gate_list_length c) c)) (first_broken (gate_tests w c)) ≡ Ok tt)
   unfolding header_verdict
   header-sound =
       let few = test (leb 1024 c.graphs) TooManyGraphs (gate_list_length c) ∷ [] in
@@ -45,7 +44,7 @@ module _ (w : ℕ) (c : Counts) (e : header_verdict w c ≡ Sound) where
       let t = all-passed (gate_tests w c) (rw z at header-sound.1) in
       (omega (arith, ltb-false 2 (kind w) t.0), ltb-false 4096 (c.nodes + lead_count w) t.1.1.0, t.1.1.1.0)
 
-pub header-few : (w : ℕ) (c : Counts) → c.nodes ≤ 4096 → header_verdict w c ≡ Sound → c.nodes + lead_count w ≤ 4096
+pub header-few : (w : ℕ) (c : Counts) → c.nodes ≤ 4096 → header_verdict w c ≡ Ok tt → c.nodes + lead_count w ≤ 4096
 header-few w c h e = go (eqb (kind w) 0) refl
   where
     go : (b : Bool) → eqb (kind w) 0 ≡ b → c.nodes + lead_count w ≤ 4096
@@ -54,7 +53,7 @@ header-few w c h e = go (eqb (kind w) 0) refl
 
 module _ (gs : List ℕ) where
   -- sound leads
-  leads-sound : (l left p : ℕ) → leads_verdict gs l left p ≡ Sound → (k : ℕ) → k < left → lead_verdict gs l (p + k) ≡ Sound
+  leads-sound : (l left p : ℕ) → leads_verdict gs l left p ≡ Ok tt → (k : ℕ) → k < left → lead_verdict gs l (p + k) ≡ Ok tt
   unfolding leads_verdict
   leads-sound l zero p e k h = absurd (omega arith)
   leads-sound l (suc left) p e zero h = rw (add-zero p) (then-sound (lead_verdict gs l p) _ e).0
@@ -62,7 +61,7 @@ module _ (gs : List ℕ) where
       let z : suc p + k ≡ p + suc k = omega arith in
       rw z at (leads-sound l left (suc p) (then-sound (lead_verdict gs l p) _ e).1 k (omega arith))
 
-  lead-told : (l p : ℕ) → lead_verdict gs l p ≡ Sound
+  lead-told : (l p : ℕ) → lead_verdict gs l p ≡ Ok tt
       → (p < length gs) × (kind (word gs p) ≡ 3) × (lead_spare (word gs p) ≡ 0) × (lead_line (word gs p) < l)
   unfolding lead_verdict
   lead-told l p e =
@@ -83,12 +82,12 @@ module _ (gs : List ℕ) where
   up_to-next l = rw (add-one l)
 
   -- a sound line, by its header and its leads
-  module _ (l : ℕ) (e : line_verdict gs (up_to l) ≡ Sound) where
-    header_of : header_verdict (header gs l) (up_to l) ≡ Sound
+  module _ (l : ℕ) (e : line_verdict gs (up_to l) ≡ Ok tt) where
+    header_of : header_verdict (header gs l) (up_to l) ≡ Ok tt
     unfolding line_verdict
     header_of = (then-sound (header_verdict (header gs l) (up_to l)) _ e).0
 
-    lead-of : (k : ℕ) → k < leads gs l → lead_verdict gs l (l + first_lead gs l + 1 + k) ≡ Sound
+    lead-of : (k : ℕ) → k < leads gs l → lead_verdict gs l (l + first_lead gs l + 1 + k) ≡ Ok tt
     unfolding line_verdict leads
     lead-of k h =
         let z : suc (l + first_lead gs l) ≡ l + first_lead gs l + 1 = omega arith in
@@ -129,7 +128,7 @@ module _ (gs : List ℕ) where
     pub few : first_lead gs l ≤ 4096
     pub inside : l + first_lead gs l ≤ length gs
 
-  within-next : (l : ℕ) → Within l → l + first_lead gs l < length gs → line_verdict gs (up_to l) ≡ Sound → Within (suc l)
+  within-next : (l : ℕ) → Within l → l + first_lead gs l < length gs → line_verdict gs (up_to l) ≡ Ok tt → Within (suc l)
   within-next l w h e = record {
     lines = omega (arith, (header-sound (header gs l) (up_to l) (header_of l e)).0);
     few = line-few l e w.few;
@@ -141,12 +140,12 @@ module _ (gs : List ℕ) where
     pub same : c ≡ up_to c.graphs
     pub within : Within c.graphs
     pub some : 0 < c.observable
-    pub sound : (h : ℕ) → l ≤ h → h < c.graphs → line_verdict gs (up_to h) ≡ Sound
+    pub sound : (h : ℕ) → l ≤ h → h < c.graphs → line_verdict gs (up_to h) ≡ Ok tt
 
-  ended-sound : (extra l : ℕ) (d : Counts) → Within l → ended gs extra (up_to l) ≡ Accepted d → AllSound l d
+  ended-sound : (extra l : ℕ) (d : Counts) → Within l → ended gs extra (up_to l) ≡ Ok d → AllSound l d
   ended-sound extra l d w e =
       let last = test (ltb 0 extra) WordNotDue (length gs) ∷ test (eqb (count (observable_line gs) l) 0) NothingObservable (length gs) ∷ [] in
-      let (s, e') = onward-accepts (first_broken last) (Accepted (up_to l)) d e in
+      let (s, e') = onward-accepts (first_broken last) (Ok (up_to l)) d e in
       let z : d ≡ up_to l = cc in
       let t = all-passed last s in
       rw z record {
@@ -156,7 +155,7 @@ module _ (gs : List ℕ) where
         sound = λ h i m. absurd (omega arith);
       }
 
-  rest-sound : (extra left l : ℕ) (d : Counts) → Within l → rest gs extra left (up_to l) ≡ Accepted d → AllSound l d
+  rest-sound : (extra left l : ℕ) (d : Counts) → Within l → rest gs extra left (up_to l) ≡ Ok d → AllSound l d
   unfolding rest
   rest-sound extra zero l d w e = let z : ◌≡◌ {A = ℕ} 0 1 = cc in absurd (omega arith)
   rest-sound extra (suc left) l d w e = elim (dec_le (length gs) (gate_list_length (up_to l))) [
@@ -176,11 +175,11 @@ module _ (gs : List ℕ) where
   unfolding first_lead
   within_none = record { lines = omega arith; few = omega arith; inside = omega arith }
 
-  all_sound : (extra : ℕ) {c : Counts} → gates_checked_with gs extra ≡ Accepted c → AllSound 0 c
+  all_sound : (extra : ℕ) {c : Counts} → gates_checked_with gs extra ≡ Ok c → AllSound 0 c
   unfolding gates_checked_with
   all_sound extra {c} e = rest-sound extra 1025 0 c within_none (sym (from-none extra 1025) ∙ (onward-accepts (first_broken (long_tests gs)) _ c e).1)
 
-pub gates-check-accepts : (gs : List ℕ) (extra : ℕ) {c : Counts} → gates_checked_with gs extra ≡ Accepted c → AcceptsGates gs c
+pub gates-check-accepts : (gs : List ℕ) (extra : ℕ) {c : Counts} → gates_checked_with gs extra ≡ Ok c → AcceptsGates gs c
 gates-check-accepts gs extra e =
     let a = all_sound gs extra e in
     let z = a.same in

@@ -1,15 +1,12 @@
 -- What the check of a gate list answers: its counts, or the first rule that it breaks, and where. Document 02, 'Gate lists above the engine'; each test
 -- stands beside its rule, in the document's order. Lines are counted as graphs, leads as nodes. Assumes nothing.
 use Prim.Native.Nat.{ℕ, zero, suc, ◌+◌}
-use Rattle.std.specs.Prelude.{List, [], ◌∷◌, Bool, not, ◌&&◌, ◌||◌, length, ltb, leb, eqb}
+use Rattle.std.specs.Prelude.{List, [], ◌∷◌, Bool, not, ◌&&◌, ◌||◌, length, ltb, leb, eqb, Ok, Err}
 use Rattle.word32.specs.Fields.{kind, gate_function, gate_spare, lead_count, lead_spare, lead_line}
 use Rattle.answers.specs.Limits.{max_graphs, max_nodes}
 use Rattle.answers.specs.declared.Rule.TheVariants.{TooManyGraphs, NodeCount, WordNotDue, StrayBit, GateForm, LeadNotEarlier}
 use Rattle.answers.specs.declared.Counts.{Counts}
-use Rattle.answers.specs.declared.Verdict.{Verdict}
-use Rattle.answers.specs.declared.Verdict.TheVariants.{Sound}
-use Rattle.answers.specs.declared.Answer.{Answer}
-use Rattle.answers.specs.declared.Answer.TheVariants.{Refused}
+use Rattle.answers.specs.Answers.{Verdict, Answer, refused}
 use Rattle.answers.specs.Tests.{Test, test, unless, first_broken, and_then, onward}
 use Rattle.form.specs.Check.{counts, with_graph, input_tests, word, due_tests, ended, either, long_tests}
 
@@ -49,7 +46,7 @@ module _ (gs : List ℕ) where
   -- `left` leads of line l, from p on
   unfoldable pub leads_verdict : ℕ → ℕ → ℕ → Verdict
   unfolding lead_verdict
-  leads_verdict l zero p = Sound
+  leads_verdict l zero p = Ok tt
   leads_verdict l (suc left) p = and_then (lead_verdict l p) (leads_verdict l left (suc p))
 
   -- the line whose header stands at the place due; an input has no leads
@@ -60,7 +57,7 @@ module _ (gs : List ℕ) where
   -- the lines from the place due on; the number bounds those to come, and 1,024 lines at most are read
   unfoldable pub rest : ℕ → ℕ → Counts → Answer
   unfolding line_verdict
-  rest extra zero c = Refused TooManyGraphs (gate_list_length c)
+  rest extra zero c = Err (refused TooManyGraphs (gate_list_length c))
   rest extra (suc left) c =
       either gs (leb (length gs) (gate_list_length c)) (ended gs extra c)
       (onward (line_verdict c) (rest extra left (with_graph (word gs (gate_list_length c)) c)))

@@ -1,8 +1,7 @@
 -- THE CARD IS THE GATE LIST, as one statement: `AsGates`. The law `drawn-as-gates` (proofs/Same.antt) has it of every accepted gate list. No contract of a
 -- call cites it. Assumes nothing.
-use Rattle.std.specs.Prelude.{ℕ, ◌<◌, ◌≡◌, List}
+use Rattle.std.specs.Prelude.{ℕ, ◌<◌, ◌≡◌, List, Ok}
 use Rattle.answers.specs.declared.Counts.{Counts}
-use Rattle.answers.specs.declared.Answer.TheVariants.{Accepted}
 use Rattle.layout.specs.Layout.{first, is_input, observable, size, reads}
 use Rattle.form.specs.Check.{checked}
 use Rattle.value.specs.Settings.{Setting, Keeps}
@@ -29,7 +28,7 @@ module _ (gs : List ℕ) (c : Counts) where
 
   pub record AsGates : Type 0 where
     -- it is accepted, with the counts of the gate list; every read is direct
-    pub accepted : checked card ≡ Accepted c
+    pub accepted : checked card ≡ Ok c
     pub direct : Direct card c
     pub graphs : (l : ℕ) → l < c.graphs → GraphOf l
     -- ITS VALUES, under every vector and with every setting that gives bits, so with every list of faults: those of the gates

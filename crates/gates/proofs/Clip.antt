@@ -7,7 +7,8 @@ use lib.ListN.{length, take}
 use borrow.Author.Tests.{lt-ltb}
 use Rattle.answers.specs.declared.Rule.TheVariants.{CardTooLong}
 use Rattle.answers.specs.declared.Counts.{Counts}
-use Rattle.answers.specs.declared.Answer.TheVariants.{Accepted, Refused}
+use Rattle.std.specs.Prelude.{Ok, Err}
+use Rattle.answers.specs.Answers.{refused}
 use Rattle.answers.specs.Calls.{Lent}
 use Rattle.answers.specs.Ends.{Stands, clip}
 use Rattle.answers.proofs.Calls.{outcome-same}
@@ -17,11 +18,11 @@ use Rattle.gatelist.specs.Form.{gates_checked_with}
 use Rattle.gatelist.proofs.Positions.{gates-checked-low}
 use Rattle.gates.specs.Calls.{lent_listed, to_card_work, to_card_outcome}
 
-long-listed : (extra : ℕ) (gs : List ℕ) → 9216 < length gs → gates_checked_with gs extra ≡ Refused CardTooLong 0
+long-listed : (extra : ℕ) (gs : List ℕ) → 9216 < length gs → gates_checked_with gs extra ≡ Err (refused CardTooLong 0)
 unfolding gates_checked_with
 long-listed extra gs h = rw (lt-ltb _ _ h)
 
-all_read : (gs : Lent) {c : Counts} → lent_listed gs ≡ Accepted c → take 9217 gs.words ≡ gs.words
+all_read : (gs : Lent) {c : Counts} → lent_listed gs ≡ Ok c → take 9217 gs.words ≡ gs.words
 all_read gs e = limit-accepted (λ ws. gates_checked_with ws gs.extra) (long-listed gs.extra) gs.words e
 
 pub to-card-clip : (gs : Lent) (room : ℕ) → to_card_outcome (clip 9217 gs) room ≡ to_card_outcome gs room

@@ -2,7 +2,7 @@
 use Rattle.std.specs.Prelude.{ℕ, List, [], ◌∷◌, length, ltb}
 use Rattle.answers.specs.declared.Rule.TheVariants.{BufferTooShort}
 use Rattle.answers.specs.declared.Counts.{Counts}
-use Rattle.answers.specs.declared.Answer.{Answer}
+use Rattle.answers.specs.Answers.{Answer}
 use Rattle.answers.specs.Tests.{Test, test}
 use Rattle.answers.specs.Calls.{Lent, Outcome, Work, work, outcome}
 use Rattle.gatelist.specs.Form.{gates_checked_with}

@@ -69,10 +69,8 @@ fn put_nodes(gates: &[u32], p: usize, w: u32, out: &mut [u32], at: usize)
 {
     let f = word32::gate_function(w);
     let n = word32::node_count(w);
-    let mut k = 0;
-    while k < n {
+    for k in 0..n {
         put_node(lists::get(gates, p + 1 + k), f, n, k, out, at + 2 * k);
-        k += 1;
     }
 }
 
@@ -92,12 +90,10 @@ pub fn write_card(gates: &[u32], c: Counts, out: &mut [u32]) -> usize
     requires { AcceptsGates gates.now c × (c.graphs + 2 * c.nodes ≤ length out.old) }
     ensures { (result ≡ length (drawn gates.now c.graphs)) × (out.new ≡ front (drawn gates.now c.graphs) out.old) }
 {
-    let mut line = 0;
     let mut leads = 0;
-    while line < c.graphs {
+    for line in 0..c.graphs {
         put_line(gates, line + leads, out, line + 2 * leads);
         leads += word32::node_count(lists::get(gates, line + leads));
-        line += 1;
     }
-    line + 2 * leads
+    c.graphs + 2 * leads
 }

@@ -7,7 +7,7 @@ use native.Mathlib.Omega.{arith}
 use lib.ListN.{get_or}
 use Rattle.lists.proofs.Tables.{tab-at}
 use Rattle.answers.specs.declared.Counts.{Counts}
-use Rattle.answers.specs.declared.Reply.TheVariants.{Done}
+use Rattle.std.specs.Prelude.{Ok}
 use Rattle.answers.specs.Calls.{Lent, Outcome}
 use Rattle.answers.proofs.Calls.{Went, call-went}
 use Rattle.testvectors.specs.Vectors.{list_verdict}
@@ -21,7 +21,7 @@ use Rattle.detect.specs.Grading.{mark, tally}
 use Rattle.detect.proofs.Grading.{unmarked-exactly}
 use Rattle.grade.specs.Calls.{grade_work, grade_outcome}
 
-module _ (card v : Lent) (m t : ℕ) {n : ℕ} (done : (grade_outcome card v m t).reply ≡ Done n) where
+module _ (card v : Lent) (m t : ℕ) {n : ℕ} (done : (grade_outcome card v m t).reply ≡ Ok n) where
   pub went : Went (opened_list card v) (grade_work m t card.words v.words)
   went = call-went (opened_list card v) (grade_work m t card.words v.words) done
 

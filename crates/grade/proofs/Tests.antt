@@ -5,8 +5,7 @@ use mathlib.Core.List.{List}
 use native.Mathlib.Omega.{arith}
 use borrow.Author.Tests.{ltb-false}
 use Rattle.answers.specs.declared.Counts.{Counts}
-use Rattle.answers.specs.declared.Verdict.TheVariants.{Sound}
-use Rattle.answers.specs.declared.Answer.TheVariants.{Accepted}
+use Rattle.std.specs.Prelude.{Ok}
 use Rattle.answers.specs.Tests.{first_broken}
 use Rattle.answers.specs.Calls.{Lent}
 use Rattle.answers.proofs.Tests.{all-passed}
@@ -18,7 +17,7 @@ use Rattle.grade.specs.Calls.{grade_tests}
 use Rattle.grade.specs.Graded.{CardWithList}
 
 -- its card and its list
-pub card-with-list : (card v : Lent) {c : Counts} → opened_list card v ≡ Accepted c → CardWithList card.words c v.words
+pub card-with-list : (card v : Lent) {c : Counts} → opened_list card v ≡ Ok c → CardWithList card.words c v.words
 card-with-list card v {c} e =
     let a = lent-accepted list_verdict card v e in
     let l = list-long c.inputs v.words a.some-input (lent-sound list_verdict card v e) in
@@ -29,7 +28,7 @@ pub few-faults : {ws xs : List ℕ} {c : Counts} → CardWithList ws c xs → c.
 few-faults y = let s = y.shape in omega (arith, s.all-faults, s.few-nodes, s.few-graphs)
 
 -- its room
-pub grade-room : (marks tallies : ℕ) (c : Counts) → first_broken (grade_tests marks tallies c) ≡ Sound → (c.faults ≤ marks) × (c.faults ≤ tallies)
+pub grade-room : (marks tallies : ℕ) (c : Counts) → first_broken (grade_tests marks tallies c) ≡ Ok tt → (c.faults ≤ marks) × (c.faults ≤ tallies)
 unfolding grade_tests
 grade-room marks tallies c e =
     let p = all-passed (grade_tests marks tallies c) e in

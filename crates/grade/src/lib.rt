@@ -4,7 +4,7 @@
 ghost use Rattle.std.specs.Prelude.{◌≡◌, ◌*◌, ◌≤◌, min, length};
 ghost use Rattle.answers.specs.Limits.{max_faults, max_width};
 ghost use Rattle.answers.specs.Tests.{first_broken};
-ghost use Rattle.answers.specs.Calls.{lent, whole, ByWordsBoth};
+ghost use Rattle.answers.specs.Calls.{lends, whole, ByWordsBoth};
 ghost use Rattle.answers.specs.Ends.{EndsBoth};
 ghost use Rattle.testvectors.specs.Lists.{list_words, lent_list};
 ghost use Rattle.cardtables.specs.Stems.{in_grade};
@@ -14,10 +14,11 @@ ghost use Rattle.block.specs.Block.{block_vectors};
 ghost use Rattle.grade.specs.Graded.{CardWithList, Graded, GradedList};
 ghost use Rattle.grade.specs.Calls.{grade_tests, grade_outcome};
 
-use answers::{Answer, Counts, Ended, MAX_WIDTH, Reply, Rule, Verdict};
+use answers::{Counts, Done, Lent, MAX_WIDTH, Refusal, Rule};
 use block::BLOCK;
 use cardtables::Tables;
 use running::Running;
+use testvectors::VectorList;
 
 // Room for the words of any block.
 fn block_room() -> [u32; BLOCK * MAX_WIDTH]
@@ -32,29 +33,26 @@ fn take_list(
     card: &[u32],
     c: Counts,
     tables: &Tables,
-    words: &[u32],
-    bytes: &[u8],
+    list: VectorList<'_>,
     marks: &mut [u32],
     tallies: &mut [u32],
 ) -> usize
-    requires { CardWithList card.now c (list_words words.now bytes.now) × Tabled card.now c tables.now × (start.vector ≡ 0)
+    requires { CardWithList card.now c (list_words list) × Tabled card.now c tables.now × (start.vector ≡ 0)
         × Counted (in_grade card.now c) c.faults marks.old tallies.old start
-        × Graded card.now c (list_words words.now bytes.now) 0 marks.old tallies.old marks.old tallies.old }
-    ensures { GradedList card.now c (list_words words.now bytes.now) result marks.old tallies.old
+        × Graded card.now c (list_words list) 0 marks.old tallies.old marks.old tallies.old }
+    ensures { GradedList card.now c (list_words list.entry) result marks.old tallies.old
         marks.new tallies.new }
 {
     let mut buffer = block_room();
     let w = testvectors::width(c.inputs);
-    let n = testvectors::list_length(words, bytes) / w;
+    let n = list.length() / w;
     let mut r = start;
-    let mut t = 0;
-    while t < n {
+    for t in (0..n).step_by(BLOCK) {
         let end = block::block_end(t, n);
         let first = t * w;
         let held = end * w - first;
-        testvectors::list_part(words, bytes, first, held, &mut buffer);
+        list.part(first, held, &mut buffer);
         r = block::take_block(r, card, c, tables, &buffer[..held], marks, tallies);
-        t = end;
     }
     r.marked
 }
@@ -64,83 +62,70 @@ pub fn grade_list(
     card: &[u32],
     c: Counts,
     tables: &Tables,
-    words: &[u32],
-    bytes: &[u8],
+    list: VectorList<'_>,
     marks: &mut [u32],
     tallies: &mut [u32],
 ) -> usize
-    requires { CardWithList card.now c (list_words words.now bytes.now) × Tabled card.now c tables.now
+    requires { CardWithList card.now c (list_words list) × Tabled card.now c tables.now
         × (c.faults ≤ length marks.old) × (c.faults ≤ length tallies.old) }
-    ensures { GradedList card.now c (list_words words.now bytes.now) result marks.old tallies.old
+    ensures { GradedList card.now c (list_words list.entry) result marks.old tallies.old
         marks.new tallies.new }
 {
     let start = block::begin(c, marks, tallies);
-    take_list(start, card, c, tables, words, bytes, marks, tallies)
+    take_list(start, card, c, tables, list, marks, tallies)
 }
 
 // The tests of a grading after the form of its list, for buffers of so many words: room for the marks, and then for the tallies.
 #[tactic(auto, unfolding(crate::specs::Calls::grade_tests))]
-fn test_grade(c: Counts, marks: usize, tallies: usize) -> Verdict
+fn test_grade(c: Counts, marks: usize, tallies: usize) -> Result<(), Refusal>
     ensures { result ≡ first_broken (grade_tests marks tallies c) }
 {
     if marks < c.faults {
-        return Verdict::Broken(Rule::BufferTooShort, 0);
+        return Err(Refusal(Rule::BufferTooShort, 0));
     }
     if tallies < c.faults {
-        return Verdict::Broken(Rule::BufferTooShort, 1);
+        return Err(Refusal(Rule::BufferTooShort, 1));
     }
-    Verdict::Sound
+    Ok(())
 }
 
 // The grading of a card, whose words are followed by so many bytes that make no word, by a list, for buffers of `room` and `more` words. No card has
 // more than 10,240 faults, so that the buffers themselves need be no longer.
 pub fn grade_with(
-    card: &[u32],
-    extra: usize,
-    words: &[u32],
-    bytes: &[u8],
+    card: Lent<'_>,
+    list: VectorList<'_>,
     room: usize,
     more: usize,
     marks: &mut [u32],
     tallies: &mut [u32],
-) -> Ended
+) -> Result<Done, Refusal>
     requires { (min room max_faults ≤ length marks.old) × (min more max_faults ≤ length tallies.old) }
-    ensures { EndsBoth (grade_outcome (lent card.now extra) (lent_list words.now bytes.now) room more) room more result
+    ensures { EndsBoth (grade_outcome (lends card.entry) (lent_list list.entry) room more) room more result
         marks.old tallies.old marks.new tallies.new }
 {
-    match opening::open_list(card, extra, words, bytes) {
-        Answer::Refused(rule, position) => answers::refused(rule, position),
-        Answer::Accepted(c) => {
-            if let Verdict::Broken(rule, position) = test_grade(c, room, more) {
-                return answers::refused(rule, position);
-            }
-            let tables = cardtables::make_tables(card, c);
-            let marked = grade_list(card, c, &tables, words, bytes, marks, tallies);
-            Ended {
-                reply: Reply::Done(marked),
-                words: c.faults,
-                more: c.faults,
-            }
-        }
-    }
+    let c = opening::open_list(card, list)?;
+    test_grade(c, room, more)?;
+    let tables = cardtables::make_tables(card.words, c);
+    let marked = grade_list(card.words, c, &tables, list, marks, tallies);
+    Ok(Done {
+        number: marked,
+        words: c.faults,
+        more: c.faults,
+    })
 }
 
 // The grading: for each fault its mark, C0000000 if no vector catches it, else E0000000 plus the number of the earliest that does; its tally, the number of
 // vectors that catch it; and the marked count, of the faults that count in the grade.
-pub fn grade(card: &[u32], vectors: &[u32], marks: &mut [u32], tallies: &mut [u32]) -> Reply
+pub fn grade(
+    card: &[u32],
+    vectors: &[u32],
+    marks: &mut [u32],
+    tallies: &mut [u32],
+) -> Result<usize, Refusal>
     ensures { ByWordsBoth (grade_outcome (whole card.now) (whole vectors.now))
         result marks.old tallies.old marks.new tallies.new }
 {
-    let none = [0u8; 1];
-    let end = grade_with(
-        card,
-        0,
-        vectors,
-        &none[..0],
-        marks.len(),
-        tallies.len(),
-        marks,
-        tallies,
-    );
-    end.reply
+    let (card, list) = (Lent::whole(card), VectorList::Words(vectors));
+    let (room, more) = (marks.len(), tallies.len());
+    grade_with(card, list, room, more, marks, tallies).map(|done| done.number)
 }

@@ -14,7 +14,7 @@ use Rattle.lists.specs.Counting.{some_of}
 use Rattle.lists.proofs.Tables.{length-tab}
 use Rattle.word32.specs.Bytes.{word_at, words_of}
 use Rattle.answers.specs.declared.Counts.{Counts}
-use Rattle.answers.specs.declared.Verdict.TheVariants.{Sound}
+use Rattle.std.specs.Prelude.{Ok}
 use Rattle.answers.specs.Tests.{first_broken}
 use Rattle.answers.proofs.Tests.{all-passed}
 use borrow.Author.Rules.{rules}
@@ -65,7 +65,7 @@ many-tested : (extra : ℕ) (fs gs : List ℕ) (room : ℕ) (c : Counts) → too
 unfolding fault_tests
 many-tested extra fs gs room c e h k = rw (e, lt-ltb 8 (length fs) h, lt-ltb 8 (length gs) k)
 
-few-passed : (extra : ℕ) (fs : List ℕ) (room : ℕ) (c : Counts) → first_broken (fault_tests extra fs room c) ≡ Sound → length fs ≤ 8
+few-passed : (extra : ℕ) (fs : List ℕ) (room : ℕ) (c : Counts) → first_broken (fault_tests extra fs room c) ≡ Ok tt → length fs ≤ 8
 unfolding fault_tests
 few-passed extra fs room c e = ltb-false 8 (length fs) (all-passed (fault_tests extra fs room c) e).1.1.0
 

@@ -1,8 +1,7 @@
 -- A list of faults read from bytes. No contract of a call cites it. Assumes nothing.
-use Rattle.std.specs.Prelude.{ℕ, ◌≤◌, ◌≡◌, List, ◌||◌, length, take, drop, leb}
+use Rattle.std.specs.Prelude.{ℕ, ◌≤◌, ◌≡◌, List, ◌||◌, length, take, drop, leb, Ok}
 use Rattle.word32.specs.Bytes.{words_of}
 use Rattle.answers.specs.declared.Counts.{Counts}
-use Rattle.answers.specs.declared.Verdict.TheVariants.{Sound}
 use Rattle.answers.specs.Tests.{first_broken}
 use Rattle.faultlist.specs.Faults.{too_high, fault_tests}
 
@@ -10,7 +9,7 @@ use Rattle.faultlist.specs.Faults.{too_high, fault_tests}
 pub record FaultsRead (b : List ℕ) (r : ℕ) (out : List ℕ) : Type 0 where
   pub fits : r ≤ length out
   pub tested : (extra room : ℕ) (c : Counts) → first_broken (fault_tests extra (take r out) room c) ≡ first_broken (fault_tests extra (words_of b) room c)
-  pub passed : (extra room : ℕ) (c : Counts) → first_broken (fault_tests extra (words_of b) room c) ≡ Sound → take r out ≡ words_of b
+  pub passed : (extra room : ℕ) (c : Counts) → first_broken (fault_tests extra (words_of b) room c) ≡ Ok tt → take r out ≡ words_of b
 
 -- r is the highest of a number and those of the list from its tenth on
 pub record Highest (b : List ℕ) (start r : ℕ) : Type 0 where

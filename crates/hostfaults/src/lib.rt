@@ -2,7 +2,7 @@
 // looked at, however long.
 #![tactic(auto)]
 
-ghost use Rattle.std.specs.Prelude.{◌≡◌, max, length};
+ghost use Rattle.std.specs.Prelude.{◌≡◌, length};
 ghost use Rattle.hostfaults.specs.Faults.{Highest, FaultsRead};
 
 // Room for the numbers of any list of faults, and for one number more, by which a longer one is refused.
@@ -12,25 +12,13 @@ pub fn faults_room() -> [u32; 9]
     [0u32; 9]
 }
 
-fn higher(a: u32, b: u32) -> u32
-    ensures { result ≡ max a b }
-{
-    if a < b {
-        return b;
-    }
-    a
-}
-
 // The highest of a number and those of a list in bytes from its tenth on.
 fn highest(faults: &[u8], start: u32) -> u32
     ensures { Highest faults.now start result }
 {
-    let n = faults.len() / 4;
     let mut high = start;
-    let mut i = 9;
-    while i < n {
-        high = higher(high, word32::word_at(faults, i));
-        i += 1;
+    for i in 9..faults.len() / 4 {
+        high = high.max(word32::word_at(faults, i));
     }
     high
 }

@@ -1,5 +1,5 @@
 -- What is read of bytes, a host's call by the end of its worker, and words written as bytes. Assumes nothing.
-use Prim.Native.Nat.{ℕ, ◌*◌, ◌/◌, ◌%◌, ◌<◌, ◌≤◌, min}
+use Prim.Native.Nat.{ℕ, ◌*◌, ◌/◌, ◌<◌, ◌≤◌, min}
 use mathlib.Core.Path.{◌≡◌, refl, sym, ap, ◌∙◌}
 use mathlib.Core.List.{List, []}
 use native.Mathlib.Omega.{arith}
@@ -10,26 +10,23 @@ use Rattle.lists.specs.Tables.{tab, over}
 use Rattle.lists.proofs.Tables.{length-tab, tab-at, over-front, length_over, over_none}
 use Rattle.word32.specs.Bytes.{word_at, words_of, byte_of}
 use Rattle.answers.specs.declared.Counts.{Counts}
-use Rattle.answers.specs.declared.Reply.{Reply}
-use Rattle.answers.specs.declared.Reply.TheVariants as reply
-use Rattle.answers.specs.declared.Ended.{Ended}
-use Rattle.answers.specs.Calls.{lent, Outcome, Work, outcome}
-use Rattle.answers.specs.Ends.{Filled, EndsAs, EndsBoth}
+use Rattle.std.specs.Prelude.{Ok, Err}
+use Rattle.answers.specs.Answers.{broken_rule, Reply}
+use Rattle.answers.specs.Calls.{Lent, Outcome, Work, outcome}
+use Rattle.answers.specs.Ends.{Ended, reply_of, written, written_more, Filled, EndsAs, EndsBoth, clip}
 use Rattle.answers.proofs.Answers.{number-some}
 use Rattle.answers.proofs.Ends.{filled-front}
 use Rattle.form.specs.Check.{lent_check}
 use Rattle.form.proofs.Clip.{check-clip}
-use Rattle.testvectors.specs.Lists.{lent_list}
-use Rattle.testvectors.proofs.Lists.{bytes-alone}
 use Rattle.opening.specs.Opened.{opened_vector, opened_list}
 use Rattle.opening.proofs.Laws.{vector-call-clip, list-call-clip}
 use Rattle.inbytes.specs.Calls.{of_bytes, room, host_answer, as_bytes, InBytes, InBytesBoth}
 use Rattle.inbytes.specs.Read.{WordsRead}
 
 -- a number below 2 ^ 32 is no refusal: the host knows from it that the call is done
-pub number-done : (r : Reply) → host_answer r < 4294967296 → r ≡ reply.Done (host_answer r)
-number-done (reply.Done n) h = refl
-number-done (reply.Refused rule p) h = absurd (omega (arith, number-some rule))
+pub number-done : (r : Reply) → host_answer r < 4294967296 → r ≡ Ok (host_answer r)
+number-done (Ok n) h = refl
+number-done (Err r) h = absurd (omega (arith, number-some (broken_rule r)))
 
 -- words written as bytes, and no words
 pub bytes_left : (ws ws' b left : List ℕ) → ws' ≡ ws → left ≡ over (length ws' * 4) (byte_of ws') b → left ≡ as_bytes ws b
@@ -65,36 +62,29 @@ words-read b d out n e q = record {
           rw z (sym (tab-take (word_at b) (length d) (length b / 4) (omega arith)))
     ]
 
--- as a slice
-pub read-slice : {b out : List ℕ} {n r : ℕ} → WordsRead b n r out → r ≡ length (take r out)
-read-slice w = sym (length-take-le _ _ w.fits)
-
 -- a call over the words that were read is the call over what is lent: of a card, of a card and a vector, and of a card and a list, which is read in place
-pub check-read : {card ws : List ℕ} {l n : ℕ} → 9217 ≡ l → WordsRead card l n ws → (f : Counts → Work)
-    → outcome (lent_check (lent (take n ws) (length card % 4))) f ≡ outcome (lent_check (of_bytes card)) f
-check-read {card} e w f = rw (w.front, ← e, check-clip (of_bytes card))
+pub check-read : (b : List ℕ) {w : Lent} {l : ℕ} → 9217 ≡ l → w ≡ clip l (of_bytes b) → (f : Counts → Work) → outcome (lent_check w) f ≡ outcome (lent_check (of_bytes b)) f
+check-read b e q f = rw (q, ← e, check-clip (of_bytes b))
 
-pub vector-read : {card v ws xs : List ℕ} {l m n k : ℕ} → 9217 ≡ l → 65 ≡ m → WordsRead card l n ws → WordsRead v m k xs → (F : List ℕ → List ℕ → Counts → Work)
-    → outcome (opened_vector (lent (take n ws) (length card % 4)) (lent (take k xs) (length v % 4))) (F (take n ws) (take k xs))
-    ≡ outcome (opened_vector (of_bytes card) (of_bytes v)) (F (words_of card) (words_of v))
-vector-read {card} {v} e i w x F = rw (w.front, x.front, ← e, ← i) (vector-call-clip (of_bytes card) (of_bytes v) F)
+pub vector-read : (b v : List ℕ) {w x : Lent} {l m : ℕ} → 9217 ≡ l → 65 ≡ m → w ≡ clip l (of_bytes b) → x ≡ clip m (of_bytes v) → (F : List ℕ → List ℕ → Counts → Work)
+    → outcome (opened_vector w x) (F w.words x.words) ≡ outcome (opened_vector (of_bytes b) (of_bytes v)) (F (words_of b) (words_of v))
+vector-read b v e i q r F = rw (q, r, ← e, ← i) (vector-call-clip (of_bytes b) (of_bytes v) F)
 
-pub list_read : {card ws : List ℕ} {l n : ℕ} (v : List ℕ) → 9217 ≡ l → WordsRead card l n ws → (F : List ℕ → List ℕ → Counts → Work)
-    → outcome (opened_list (lent (take n ws) (length card % 4)) (lent_list [] v)) (F (take n ws) (lent_list [] v).words)
-    ≡ outcome (opened_list (of_bytes card) (of_bytes v)) (F (words_of card) (words_of v))
-list_read {card} v e w F = rw (bytes-alone v, w.front, ← e) (list-call-clip (of_bytes card) (of_bytes v) (λ ws. F ws (words_of v)))
+pub list_read : (b v : List ℕ) {w : Lent} {l : ℕ} → 9217 ≡ l → w ≡ clip l (of_bytes b) → (F : List ℕ → List ℕ → Counts → Work)
+    → outcome (opened_list w (of_bytes v)) (F w.words (words_of v)) ≡ outcome (opened_list (of_bytes b) (of_bytes v)) (F (words_of b) (words_of v))
+list_read b v e q F = rw (q, ← e) (list-call-clip (of_bytes b) (of_bytes v) (λ ws. F ws (words_of v)))
 
 -- the host's answer is the outcome's, where the worker's outcome is that of the call
 left-bytes : {ws ws' before out left : List ℕ} {room n : ℕ} (b : List ℕ) → Filled ws room n before out → ws ≡ ws' → left ≡ as_bytes (take n out) b → left ≡ as_bytes ws' b
 left-bytes b w i q = q ∙ ap (λ (l : List ℕ). as_bytes l b) (filled-front w ∙ i)
 
 pub in_bytes : (call : ℕ → Outcome) {o : Outcome} {n : ℕ} {r : Ended} {before out left : List ℕ} (b : List ℕ) → EndsAs o (room b) r before out → o ≡ call (room b)
-    → (n ≡ host_answer r.reply) × (left ≡ as_bytes (take r.words out) b) → InBytes call n b left
+    → (n ≡ host_answer (reply_of r)) × (left ≡ as_bytes (take (written r) out) b) → InBytes call n b left
 in_bytes call b e i (h, q) = (h ∙ ap host_answer (e.reply ∙ ap (λ (o : Outcome). o.reply) i), left-bytes b e.filled (ap (λ (o : Outcome). o.words) i) q)
 
 pub in-bytes-both : (call : ℕ → ℕ → Outcome) {o : Outcome} {n : ℕ} {r : Ended} {before out left before' out' left' : List ℕ} (b d : List ℕ)
     → EndsBoth o (room b) (room d) r before before' out out' → o ≡ call (room b) (room d)
-    → (n ≡ host_answer r.reply) × (left ≡ as_bytes (take r.words out) b) × (left' ≡ as_bytes (take r.more out') d) → InBytesBoth call n b d left left'
+    → (n ≡ host_answer (reply_of r)) × (left ≡ as_bytes (take (written r) out) b) × (left' ≡ as_bytes (take (written_more r) out') d) → InBytesBoth call n b d left left'
 in-bytes-both call b d e i (h, q, q') = (
   h ∙ ap host_answer (e.first.reply ∙ ap (λ (o : Outcome). o.reply) i),
   left-bytes b e.first.filled (ap (λ (o : Outcome). o.words) i) q,

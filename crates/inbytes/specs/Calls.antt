@@ -1,11 +1,9 @@
 -- What the calls of the fixture's host share: document 01, 'Calls'. Cards, vectors and buffers are bytes, each word four of them, highest byte first; the
 -- answer is one 64-bit number. Assumes nothing.
-use Rattle.std.specs.Prelude.{ℕ, ◌+◌, ◌*◌, ◌/◌, ◌%◌, ◌≡◌, List, length}
+use Rattle.std.specs.Prelude.{ℕ, ◌+◌, ◌*◌, ◌/◌, ◌%◌, ◌≡◌, List, length, Ok, Err}
 use Rattle.lists.specs.Tables.{over}
 use Rattle.word32.specs.Bytes.{words_of, byte_of}
-use Rattle.answers.specs.declared.Reply.{Reply}
-use Rattle.answers.specs.declared.Reply.TheVariants as reply
-use Rattle.answers.specs.Answers.{number_of}
+use Rattle.answers.specs.Answers.{number_of, broken_rule, stands_at, Reply}
 use Rattle.answers.specs.Calls.{Lent, lent, Outcome}
 
 -- WHAT IS LENT in bytes: the whole words that they hold, and the one to three bytes left over, if there are any
@@ -18,8 +16,8 @@ room buffer = length buffer / 4
 
 -- THE ONE NUMBER that a call returns: for a refusal its number × 4,294,967,296 plus the position, else the number that the call tells
 abbrev pub host_answer : Reply → ℕ
-host_answer (reply.Done n) = n
-host_answer (reply.Refused r p) = number_of r * 4294967296 + p
+host_answer (Ok n) = n
+host_answer (Err r) = number_of (broken_rule r) * 4294967296 + stands_at r
 
 -- A LENT BUFFER with words written into it from its start, each as four bytes; its other bytes, and so a leftover, are as they were
 unfoldable pub as_bytes : List ℕ → List ℕ → List ℕ

@@ -2,14 +2,15 @@
 // bytes.
 #![tactic(auto)]
 
-ghost use Rattle.std.specs.Prelude.{◌≡◌, ◌+◌, ◌*◌, ◌≤◌, ◌<◌, min, length, take};
+ghost use Rattle.std.specs.Prelude.{◌≡◌, ◌+◌, ◌*◌, ◌≤◌, ◌<◌, min, length, take, Err};
 ghost use Rattle.answers.specs.Limits.{max_graphs, max_words, max_width};
-ghost use Rattle.answers.specs.declared.Reply.TheVariants as reply;
-ghost use Rattle.answers.specs.Ends.{Stands};
-ghost use Rattle.inbytes.specs.Calls.{host_answer, as_bytes};
+ghost use Rattle.answers.specs.Answers.{refused};
+ghost use Rattle.answers.specs.Ends.{reply_of, written, written_more, clip, Stands};
+ghost use Rattle.answers.specs.Calls.{lends};
+ghost use Rattle.inbytes.specs.Calls.{of_bytes, host_answer, as_bytes};
 ghost use Rattle.inbytes.specs.Read.{WordsRead};
 
-use answers::{Ended, MAX_GRAPHS, MAX_WIDTH, MAX_WORDS, Reply, Rule};
+use answers::{Done, Lent, MAX_GRAPHS, MAX_WIDTH, MAX_WORDS, Refusal, Rule};
 
 // Room for the words of any card, of any vector and of any wires, and for one word more, by which longer ones are refused.
 pub fn card_room() -> [u32; MAX_WORDS + 1]
@@ -30,72 +31,65 @@ pub fn wires_room() -> [u32; MAX_GRAPHS + 1]
     [0u32; MAX_GRAPHS + 1]
 }
 
-fn least(a: usize, b: usize) -> usize
-    ensures { result ≡ min a b }
-{
-    if a < b {
-        return a;
-    }
-    b
-}
-
 // The words of some bytes, as many as there are or as fit, go to the front of a buffer; the result is their number.
 pub fn read_words(b: &[u8], out: &mut [u32]) -> usize
     ensures { WordsRead b.now (length out.old) result out.new }
 {
-    let n = least(b.len() / 4, out.len());
-    let mut i = 0;
-    while i < n {
+    let n = (b.len() / 4).min(out.len());
+    for i in 0..n {
         out[i] = word32::word_at(b, i);
-        i += 1;
     }
     n
+}
+
+// What is lent in bytes: its words, as many as there are or as fit, go to the front of a buffer, and are lent from there.
+pub fn read<'a>(b: &[u8], out: &'a mut [u32]) -> Lent<'a>
+    ensures { lends result ≡ clip (length out.old) (of_bytes b.now) }
+{
+    let n = read_words(b, out);
+    Lent {
+        words: &out[..n],
+        extra: b.len() % 4,
+    }
 }
 
 // The one number for a refusal.
 fn refusal(rule: Rule, position: usize) -> u64
     requires { position < 4294967296 }
-    ensures { result ≡ host_answer (reply.Refused rule position) }
+    ensures { result ≡ host_answer (Err (refused rule position)) }
 {
-    answers::rule_number(rule) as u64 * 4294967296 + position as u64
-}
-
-// The one number of a reply.
-fn answer_number(reply: Reply) -> u64
-    requires { Stands reply }
-    ensures { result ≡ host_answer reply }
-{
-    match reply {
-        Reply::Done(number) => number as u64,
-        Reply::Refused(rule, position) => refusal(rule, position),
-    }
+    u32::from(rule) as u64 * 4294967296 + position as u64
 }
 
 // The answer of a call that has ended, and the words that it wrote as bytes in the lent buffer.
-pub fn answer(end: Ended, out: &[u32], buffer: &mut [u8]) -> u64
-    requires { Stands end.reply × (end.words ≤ length out.now) × (end.words * 4 ≤ length buffer.old) }
-    ensures { (result ≡ host_answer end.reply) × (buffer.new ≡ as_bytes (take end.words out.now) buffer.old) }
+pub fn answer(end: Result<Done, Refusal>, out: &[u32], buffer: &mut [u8]) -> u64
+    requires { Stands (reply_of end) × (written end ≤ length out.now) × (written end * 4 ≤ length buffer.old) }
+    ensures { (result ≡ host_answer (reply_of end)) × (buffer.new ≡ as_bytes (take (written end) out.now) buffer.old) }
 {
-    let n = end.words;
-    word32::bytes_of(&out[..n], buffer);
-    let reply = end.reply;
-    answer_number(reply)
+    match end {
+        Ok(done) => {
+            word32::bytes_of(&out[..done.words], buffer);
+            done.number as u64
+        }
+        Err(Refusal(rule, position)) => refusal(rule, position),
+    }
 }
 
 // The same with two buffers.
 pub fn answer_both(
-    end: Ended,
+    end: Result<Done, Refusal>,
     out: &[u32],
     more: &[u32],
     buffer: &mut [u8],
     second: &mut [u8],
 ) -> u64
-    requires { Stands end.reply × (end.words ≤ length out.now) × (end.words * 4 ≤ length buffer.old)
-        × (end.more ≤ length more.now) × (end.more * 4 ≤ length second.old) }
-    ensures { (result ≡ host_answer end.reply) × (buffer.new ≡ as_bytes (take end.words out.now) buffer.old)
-        × (second.new ≡ as_bytes (take end.more more.now) second.old) }
+    requires { Stands (reply_of end) × (written end ≤ length out.now) × (written end * 4 ≤ length buffer.old)
+        × (written_more end ≤ length more.now) × (written_more end * 4 ≤ length second.old) }
+    ensures { (result ≡ host_answer (reply_of end)) × (buffer.new ≡ as_bytes (take (written end) out.now) buffer.old)
+        × (second.new ≡ as_bytes (take (written_more end) more.now) second.old) }
 {
-    let m = end.more;
-    word32::bytes_of(&more[..m], second);
+    if let Ok(done) = end {
+        word32::bytes_of(&more[..done.more], second);
+    }
     answer(end, out, buffer)
 }

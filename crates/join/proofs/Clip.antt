@@ -7,8 +7,7 @@ use lib.ListN.{length, length-take}
 use lib.Seq.{length-take-le, take_all}
 use Rattle.lists.proofs.Counting.{least-le}
 use Rattle.answers.specs.declared.Counts.{Counts}
-use Rattle.answers.specs.declared.Verdict.TheVariants.{Sound}
-use Rattle.answers.specs.declared.Answer.TheVariants.{Accepted}
+use Rattle.std.specs.Prelude.{Ok}
 use Rattle.answers.specs.Tests.{first_broken}
 use Rattle.answers.specs.Calls.{Lent, Outcome, Work, outcome_by, outcome}
 use Rattle.answers.specs.Ends.{Stands, clip}
@@ -26,7 +25,7 @@ use Rattle.join.specs.Calls.{join_work, join_outcome}
 use Rattle.join.proofs.Laws.{wires-other}
 
 -- two accepted cards: more wire words than a card has inputs are told alike, whatever their number, and fewer are all read
-module _ (a b wires : Lent) (room : ℕ) {A B : Counts} (ea : lent_check a ≡ Accepted A) (eb : lent_check b ≡ Accepted B) where
+module _ (a b wires : Lent) (room : ℕ) {A B : Counts} (ea : lent_check a ≡ Ok A) (eb : lent_check b ≡ Ok B) where
   few : B.inputs ≤ 1024
   few = (some-inputs (check-accepts _ _ _ eb)).1
 
@@ -47,10 +46,10 @@ module _ (a b wires : Lent) (room : ℕ) {A B : Counts} (ea : lent_check a ≡ A
         ∙ wires-other A B wires _ room (λ e. omega (arith, few))
   ]
 
-  came_same : first_broken all.tests ≡ Sound → outcome_by Sound read ≡ outcome_by Sound all
+  came_same : first_broken all.tests ≡ Ok tt → outcome_by (Ok tt) read ≡ outcome_by (Ok tt) all
   came_same s = elim (dec_le (length wires.words) 1025) [
-    | yes l ↦ ap (outcome_by Sound) (read_same l)
-    | no m ↦ absurd (not_sound _ _ (wires-other A B wires _ room (λ e. omega (arith, few)) ∙ s))
+    | yes l ↦ ap (outcome_by (Ok tt)) (read_same l)
+    | no m ↦ absurd (not_sound _ (wires-other A B wires _ room (λ e. omega (arith, few)) ∙ s))
   ]
 
 pub join-clip : (a b wires : Lent) (room : ℕ) → join_outcome (clip 9217 a) (clip 9217 b) (clip 1025 wires) room ≡ join_outcome a b wires room
@@ -68,7 +67,7 @@ read-stands a b wires room few =
     following-stands (lent_check a) _ (check-low a.words a.extra) (λ A e.
     let x = check-accepts _ _ _ e in
     outcome-stands (counted_on (length a.words) (lent_check b)) (join_work a b wires room A)
-    (on-low _ _ (lent_check b) (λ r p q. omega (arith, check-position b.words b.extra q, x.long, x.shape.few-graphs, x.shape.few-nodes)))
+    (on-low _ _ (lent_check b) (λ r q. omega (arith, check-position b.words b.extra q, x.long, x.shape.few-graphs, x.shape.few-nodes)))
     (λ B. (omega arith, (omega arith, (omega (arith, least-le (wrong_wire A.graphs wires.words) (length wires.words)), (omega arith, (omega arith, tt)))))))
 
 pub join_stands : (a b wires : Lent) (room : ℕ) → Stands (join_outcome a b wires room).reply

@@ -2,7 +2,7 @@
 use Prim.Native.Nat.{ℕ}
 use mathlib.Core.Path.{◌≡◌, ap, ◌∙◌}
 use lib.ListN.{length}
-use Rattle.answers.specs.declared.Reply.TheVariants as reply
+use Rattle.std.specs.Prelude.{Ok}
 use Rattle.answers.specs.Calls.{Lent, Outcome, outcome}
 use Rattle.answers.proofs.Calls.{call-went, call-followed}
 use Rattle.form.specs.Check.{lent_check}
@@ -14,7 +14,7 @@ use Rattle.join.specs.Calls.{joined_words, join_work, join_outcome}
 use Rattle.join.specs.Done.{Made}
 use Rattle.join.proofs.Laws.{wires-sound}
 
-pub join-done : (a b wires : Lent) (room n : ℕ) → (join_outcome a b wires room).reply ≡ reply.Done n → Made a b wires room n
+pub join-done : (a b wires : Lent) (room n : ℕ) → (join_outcome a b wires room).reply ≡ Ok n → Made a b wires room n
 join-done a b wires room n e =
     let second = counted_on (length a.words) (lent_check b) in
     let w = call-followed (lent_check a) (λ A. outcome second (join_work a b wires room A)) e in

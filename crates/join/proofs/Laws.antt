@@ -8,8 +8,8 @@ use lib.ListN.{length}
 use borrow.Author.Tests.{lt-ltb, le-ltb}
 use Rattle.answers.specs.declared.Counts.{Counts}
 use Rattle.answers.specs.declared.Rule.TheVariants.{WireForm}
-use Rattle.answers.specs.declared.Verdict.{Verdict}
-use Rattle.answers.specs.declared.Verdict.TheVariants.{Sound, Broken}
+use Rattle.std.specs.Prelude.{Ok, Err}
+use Rattle.answers.specs.Answers.{Verdict, refused}
 use Rattle.answers.specs.Tests.{first_broken}
 use Rattle.answers.specs.Calls.{Lent}
 use Rattle.answers.proofs.Tests.{all-passed, passed-sound}
@@ -25,20 +25,20 @@ use Rattle.join.specs.Calls.{wire_tests}
 
 -- bytes left over after the wires, or none
 module _ (A B : Counts) (wires : Lent) (n room : ℕ) where
-  pub wires-odd : 0 < wires.extra → Broken WireForm 0 ≡ first_broken (wire_tests A B wires n room)
+  pub wires-odd : 0 < wires.extra → Err (refused WireForm 0) ≡ first_broken (wire_tests A B wires n room)
   wires-odd h = rw (lt-ltb _ _ h)
 
   pub wires-whole : wires.extra ≤ 0 → first_broken (join_tests A B wires.words n room) ≡ first_broken (wire_tests A B wires n room)
   wires-whole h = rw (le-ltb _ _ h)
 
   -- another number of wire words is told as a leftover is
-  pub wires-other : (length wires.words ≡ B.inputs → ⊥) → Broken WireForm 0 ≡ first_broken (wire_tests A B wires n room)
+  pub wires-other : (length wires.words ≡ B.inputs → ⊥) → Err (refused WireForm 0) ≡ first_broken (wire_tests A B wires n room)
   wires-other h = elim (dec_lt 0 wires.extra) [
     | yes l ↦ wires-odd l
     | no m ↦ wires-number A B wires.words n room h ∙ wires-whole (omega arith)
   ]
 
-  pub wires-sound : first_broken (wire_tests A B wires n room) ≡ Sound → first_broken (join_tests A B wires.words n room) ≡ Sound
+  pub wires-sound : first_broken (wire_tests A B wires n room) ≡ Ok tt → first_broken (join_tests A B wires.words n room) ≡ Ok tt
   wires-sound e = passed-sound (join_tests A B wires.words n room) (all-passed (wire_tests A B wires n room) e).1
 
 -- two accepted cards, and wires that pass
@@ -64,7 +64,7 @@ module _ {a b : List ℕ} {A B : Counts} (wires : Lent) (room : ℕ) {v : Verdic
   tests-told q = rw (joined-long x y wires.words, ← e) q
 
   -- where they pass, the words fit the room, and so a buffer that has this room or that of any card
-  module _ (q : v ≡ Sound) where
+  module _ (q : v ≡ Ok tt) where
     passed : Wired A B wires.words × (card_length (joined_counts A B wires.words) ≤ room)
     passed = tests-wired A B wires.words _ room (wires-sound A B wires _ room (sym e ∙ q))
 

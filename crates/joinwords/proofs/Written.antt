@@ -4,10 +4,11 @@ use mathlib.Core.Path.{◌≡◌, sym, ap, ap₂, ◌∙◌}
 use mathlib.Core.List.{List, ◌++◌, map, append_assoc}
 use native.Mathlib.Omega.{arith}
 use lib.ListN.{length, get_or, take, drop, length-append, length-drop, length-map}
+use lib.Seq.{take_all, get_or-drop}
 use Rattle.lists.specs.Counting.{choose}
 use Rattle.lists.specs.Tables.{at, tab, over, always, front}
-use Rattle.lists.proofs.Tables.{length-tab, tab-at, length_over, over-front}
-use Rattle.lists.proofs.Front.{front-on, length_front}
+use Rattle.lists.proofs.Tables.{length-tab, tab-at, tab-same}
+use Rattle.lists.proofs.Front.{front-on, length_front, tab-map}
 use Rattle.answers.specs.declared.Counts.{Counts}
 use Rattle.layout.specs.Shape.{Accepts}
 use Rattle.form.specs.Check.{card_length}
@@ -18,6 +19,22 @@ use Rattle.joinwords.proofs.Laws.{renumbered-same, moved-map, wired-low, free-fe
 -- the words after the inputs of a card
 pub length-outputs : (card inputs : List ℕ) (start : ℕ) → length (output_words card inputs start) ≡ length card - length inputs
 length-outputs card inputs start = length-map (drop (length inputs) card) _ ∙ length-drop (length inputs) card
+
+-- those words as a slice lends them, moved one by one
+module _ (card : List ℕ) (m : ℕ) where
+  abbrev pub later : List ℕ
+  later = take (length card - m) (drop m card)
+
+  later-is : later ≡ drop m card
+  later-is = take_all (length card - m) (drop m card) (omega (arith, length-drop m card))
+
+  pub length-later : length later ≡ length card - m
+  length-later = rw later-is (length-drop m card)
+
+  pub outputs-moved : (f : ℕ → ℕ) → f 0 ≡ 0 → tab (λ i. f (get_or later i 0)) (length later) ≡ map f (drop m card)
+  outputs-moved f z =
+      rw (later-is, length-drop m card)
+      (tab-same (λ i. f (get_or (drop m card) i 0)) (λ i. f (get_or card (m + i) 0)) (length card - m) (λ i l. ap f (get_or-drop m card i 0)) ∙ tab-map f card m z)
 
 -- the inputs' words are at the front of a buffer
 pub front-inputs : (n : ℕ) (d : List ℕ) → over n (always 0) d ≡ front (tab (always 0) n) d
@@ -66,9 +83,6 @@ module _ (card inputs : List ℕ) (start : ℕ) (xs d : List ℕ) {x y : List �
   room-left h = ap length part-written ∙ length_front (xs ++ output_words card inputs start) d (omega (arith, part-long))
 
 -- the tables of the inputs' numbers
-pub table-made : (f : ℕ → ℕ) (n : ℕ) (d : List ℕ) {table : List ℕ} → 1024 ≡ length d → n ≤ 1024 → table ≡ over n f d → (1024 ≡ length table) × (take n table ≡ tab f n)
-table-made f n d l h e = (rw e (l ∙ sym (length_over f d n (omega arith))), rw e (over-front f d n))
-
 pub kept-numbered : (m start : ℕ) (l : List ℕ) → l ≡ tab (λ i. i) m → m ≤ start → start ≤ 2048 → Numbered 2048 l start
 kept-numbered m start l e h k = record {
   few = k;

@@ -1,10 +1,17 @@
 -- How low numbers must be for the renumbering functions, so that sums fit a word; and what these write. No contract of a call cites it. Assumes nothing.
-use Rattle.std.specs.Prelude.{ℕ, ◌+◌, ◌≤◌, ◌<◌, ◌≡◌, List, ◌++◌, map, false, length, get_or, drop}
+use Rattle.std.specs.Prelude.{ℕ, ◌+◌, ◌≤◌, ◌<◌, ◌≡◌, Bool, cond, not, ◌&&◌, eqb, leb, Option, None, Some, List, ◌++◌, map, false, length, get_or, drop}
 use Rattle.lists.specs.Counting.{choose}
 use Rattle.lists.specs.Tables.{at, tab, always}
 use Rattle.answers.specs.Limits.{max_graphs, max_nodes}
 use Rattle.answers.specs.declared.Counts.{Counts}
 use Rattle.wiring.specs.Joined.{is_free, free_below, renumbered, moved}
+
+-- the graph that a wire word names, or none where it leaves its input free; and whether it names none of so many graphs
+abbrev pub wire_of : ℕ → Option ℕ
+wire_of w = cond (eqb w 0xFFFFFFFF) None (Some w)
+
+abbrev pub names_none : ℕ → ℕ → Bool
+names_none G w = not (eqb w 0xFFFFFFFF) && leb G w
 
 -- the counts of two accepted cards are small
 pub record WithinLimits (A B : Counts) : Type 0 where

@@ -3,95 +3,82 @@
 #![tactic(auto)]
 
 ghost use Rattle.std.specs.Prelude.{◌≡◌, ◌++◌, ℕ, ◌+◌, ◌-◌, ◌*◌, ◌≤◌, ◌<◌, length, get_or, take};
-ghost use Rattle.lists.specs.Counting.{choose, least};
+ghost use Rattle.lists.specs.Counting.{least};
 ghost use Rattle.lists.specs.Tables.{at, tab, over, front};
 ghost use Rattle.answers.specs.Limits.{max_graphs};
 ghost use Rattle.answers.specs.Tests.{first_broken};
 ghost use Rattle.layout.specs.Shape.{Accepts};
 ghost use Rattle.form.specs.Check.{counts, card_length};
 ghost use Rattle.wiring.specs.Joined.{is_free, free_below, wrong_wire, size_tests, renumbered, moved, joined_counts, joined, join_tests};
-ghost use Rattle.joinwords.specs.Numbers.{WithinLimits, Numbered, LowWires, wired_input, output_words, parts_words};
+ghost use Rattle.joinwords.specs.Numbers.{wire_of, names_none, WithinLimits, Numbered, LowWires, wired_input, output_words, parts_words};
 
-use answers::{Counts, MAX_GRAPHS, MAX_NODES, Rule, Verdict};
+use answers::{Counts, MAX_GRAPHS, MAX_NODES, Refusal, Rule};
 
-// 1 where wire word i leaves its input free, else 0.
-fn free_one(wires: &[u32], i: usize) -> usize
-    requires { i < length wires.now }
-    ensures { result ≡ choose (is_free wires.now i) 1 0 }
+// The wire word that leaves its input free.
+const FREE: u32 = 0xFFFF_FFFF;
+
+// The graph that a wire word names, or none where it leaves its input free.
+fn wire_of(word: u32) -> Option<usize>
+    ensures { result ≡ wire_of word }
 {
-    if lists::get(wires, i) == 0xFFFF_FFFF {
-        return 1;
+    if word == FREE {
+        return None;
     }
-    0
+    Some(word as usize)
 }
 
 // How many inputs the wires leave free.
 fn count_free(wires: &[u32]) -> usize
     ensures { result ≡ free_below wires.now (length wires.now) }
 {
-    let mut n = 0;
-    let mut i = 0;
-    while i < wires.len() {
-        n += free_one(wires, i);
-        i += 1;
-    }
-    n
+    wires.iter().filter(|w| **w == FREE).count()
 }
 
-// Whether wire word i names none of so many graphs, and is not free.
-fn is_wrong(graphs: usize, wires: &[u32], i: usize) -> bool
-    requires { i < length wires.now }
-    ensures { result ≡ wrong_wire graphs wires.now i }
+// Whether a wire word names none of so many graphs, and is not free.
+fn is_wrong(graphs: usize, word: u32) -> bool
+    ensures { result ≡ names_none graphs word }
 {
-    let wire = lists::get(wires, i);
-    if wire == 0xFFFF_FFFF {
-        return false;
-    }
-    graphs <= wire as usize
+    wire_of(word).is_some_and(|g| graphs <= g)
 }
 
 // The first wrong wire word, or the number of wire words.
 fn first_wrong(graphs: usize, wires: &[u32]) -> usize
     ensures { result ≡ least (wrong_wire graphs wires.now) (length wires.now) }
 {
-    let mut i = 0;
-    while i < wires.len() {
-        if is_wrong(graphs, wires, i) {
-            return i;
-        }
-        i += 1;
-    }
-    i
+    wires
+        .iter()
+        .position(|w| is_wrong(graphs, *w))
+        .unwrap_or(wires.len())
 }
 
 // A joined card of so many graphs and nodes: the limits of a card, and a buffer of `room` words.
-fn test_size(graphs: usize, nodes: usize, room: usize) -> Verdict
+fn test_size(graphs: usize, nodes: usize, room: usize) -> Result<(), Refusal>
     requires { (graphs ≤ 8192) × (nodes ≤ 8192) }
     ensures { (i o : ℕ) → result ≡ first_broken (size_tests (counts i graphs nodes o) (graphs + 2 * nodes) room) }
 {
     if MAX_GRAPHS < graphs {
-        return Verdict::Broken(Rule::JoinedTooLarge, 0);
+        return Err(Refusal(Rule::JoinedTooLarge, 0));
     }
     if MAX_NODES < nodes {
-        return Verdict::Broken(Rule::JoinedTooLarge, 0);
+        return Err(Refusal(Rule::JoinedTooLarge, 0));
     }
     if room < graphs + 2 * nodes {
-        return Verdict::Broken(Rule::BufferTooShort, 0);
+        return Err(Refusal(Rule::BufferTooShort, 0));
     }
-    Verdict::Sound
+    Ok(())
 }
 
 // The tests after both checks, for a buffer of `room` words: the number of wire words, each of them, the limits of a card, the room.
-pub fn test_join(a: Counts, b: Counts, wires: &[u32], room: usize) -> Verdict
+pub fn test_join(a: Counts, b: Counts, wires: &[u32], room: usize) -> Result<(), Refusal>
     requires { WithinLimits a b }
     ensures { result ≡ first_broken (join_tests a b wires.now (card_length (joined_counts a b wires.now)) room) }
 {
     if wires.len() != b.inputs {
-        return Verdict::Broken(Rule::WireForm, 0);
+        return Err(Refusal(Rule::WireForm, 0));
     }
     let wrong = first_wrong(a.graphs, wires);
     if wrong < wires.len() {
-        return Verdict::Broken(Rule::WireForm, wrong);
+        return Err(Refusal(Rule::WireForm, wrong));
     }
     let free = count_free(wires);
     test_size(
@@ -129,14 +116,11 @@ fn put_outputs(card: &[u32], inputs: &[u32], start: usize, out: &mut [u32], n: u
     ensures { (result ≡ n + (length card.now - length inputs.now))
         × (out.new ≡ front (take n out.old ++ output_words card.now inputs.now start) out.old) }
 {
-    let m = inputs.len();
-    let many = card.len() - m;
-    let mut k = 0;
-    while k < many {
-        out[n + k] = move_word(inputs, start, lists::get(card, m + k));
-        k += 1;
+    let words = &card[inputs.len()..];
+    for (k, w) in words.iter().enumerate() {
+        out[n + k] = move_word(inputs, start, *w);
     }
-    n + k
+    n + words.len()
 }
 
 // A's inputs keep their numbers.
@@ -144,10 +128,8 @@ fn keep_inputs(m: usize, inputs: &mut [u32])
     requires { (m ≤ max_graphs) × (m ≤ length inputs.old) }
     ensures { inputs.new ≡ over m (λ i. i) inputs.old }
 {
-    let mut i = 0;
-    while i < m {
-        inputs[i] = i as u32;
-        i += 1;
+    for (i, number) in inputs[..m].iter_mut().enumerate() {
+        *number = i as u32;
     }
 }
 
@@ -161,29 +143,20 @@ fn kept_inputs(m: usize) -> layout::Graphs
     table
 }
 
-// The new number of input i of B: the next one due where it is free, else that of the graph of A that its wire names.
-fn wire_input(wires: &[u32], i: usize, due: usize, inputs: &[u32], start: usize) -> usize
-    requires { (i < length wires.now) × (start ≤ 4096) }
-    ensures { result ≡ choose (is_free wires.now i) due (renumbered (length inputs.now) (at inputs.now) start (get_or wires.now i 0)) }
-{
-    let wire = lists::get(wires, i);
-    if wire == 0xFFFF_FFFF {
-        return due;
-    }
-    new_number(inputs, start, wire as usize)
-}
-
 // The new numbers of B's inputs, where those of A's are given: free ones follow A's inputs in their order.
 fn wire_inputs(wires: &[u32], inputs: &[u32], start: usize, out: &mut [u32])
     requires { LowWires wires.now × Numbered 2048 inputs.now start × (length inputs.now ≤ max_graphs) × (length wires.now ≤ length out.old) }
     ensures { out.new ≡ over (length wires.now) (wired_input wires.now inputs.now start) out.old }
 {
     let mut due = inputs.len();
-    let mut i = 0;
-    while i < wires.len() {
-        out[i] = wire_input(wires, i, due, inputs, start) as u32;
-        due += free_one(wires, i);
-        i += 1;
+    for (i, word) in wires.iter().enumerate() {
+        match wire_of(*word) {
+            Some(g) => out[i] = new_number(inputs, start, g) as u32,
+            None => {
+                out[i] = due as u32;
+                due += 1;
+            }
+        }
     }
 }
 

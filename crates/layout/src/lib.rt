@@ -60,13 +60,11 @@ pub fn first_nodes(card: &[u32], c: Counts, firsts: &mut [u32])
     ensures { firsts.new ≡ over (c.graphs + 1) (first card.now) firsts.old }
 {
     let mut n: usize = 0;
-    let mut g = 0;
-    while g < c.graphs {
+    for g in 0..c.graphs {
         firsts[g] = n as u32;
         n += word32::node_count(card[g + 2 * n]);
-        g += 1;
     }
-    firsts[g] = n as u32;
+    firsts[c.graphs] = n as u32;
 }
 
 // The first node of graph g. A card's tables begin with the first nodes; a call that wants no other table makes these alone.

@@ -2,11 +2,16 @@
 use Prim.Native.Nat.{ℕ, zero, suc, ◌+◌, ◌-◌, ◌*◌, ◌/◌, ◌<◌, ◌≤◌}
 use mathlib.Core.Path.{◌≡◌, refl, sym, ap, ap₂, ◌∙◌}
 use mathlib.Core.Bool.{Bool, true, false, ◌||◌}
+use mathlib.Core.List.{List}
 use native.Mathlib.Omega.{arith}
 use native.Mathlib.Nat.{add-zero, add-suc}
 use native.Mathlib.Numerals.{add-one}
 use native.Mathlib.Decide.{ℕ_discrete, dec_lt}
 use lib.Dec.{ltb, eqb}
+use lib.ListN.{length, get_or, take, drop, length-drop}
+use lib.Seq.{get_or-drop}
+use Rattle.std.specs.List.{count_by}
+use Rattle.std.proofs.lemmas.List.Sums.{count_by_more_yes, count_by_more_no}
 use borrow.Author.Tests.{lt-ltb, le-ltb, ltb-true, ltb-false, eq-eqb, ne_eqb}
 use Rattle.lists.specs.Counting.{choose, count, least}
 use Rattle.lists.proofs.Tests.{choose-bit}
@@ -52,6 +57,19 @@ count-pairs p (suc n) =
     let a : 2 * n / 2 ≡ n = omega arith in
     let b : suc (2 * n) / 2 ≡ n = omega arith in
     rw (e, a, b, count-pairs p n) (omega arith)
+
+-- the words of a part of a list that pass, from word a on
+pub count-part : (p : ℕ → Bool) (l : List ℕ) (a k : ℕ) → a + k ≤ length l → count_by p (take k (drop a l)) ≡ count (λ i. p (get_or l (a + i) 0)) k
+unfolding count
+count-part p l a zero h = refl
+count-part p l a (suc k) h = next (p (get_or l (a + k) 0)) refl (count-part p l a k (omega arith))
+  where
+    next : (b : Bool) → p (get_or l (a + k) 0) ≡ b → count_by p (take k (drop a l)) ≡ count (λ i. p (get_or l (a + i) 0)) k
+        → count_by p (take (suc k) (drop a l)) ≡ count (λ i. p (get_or l (a + i) 0)) k + choose (p (get_or l (a + k) 0)) 1 0
+    next true e f = rw (← add-one k, e) (count_by_more_yes p (drop a l) k 0 (rw (length-drop a l) (omega arith)) (ap p (get_or-drop a l k 0) ∙ e) ∙ ap (◌+ 1) f)
+    next false e f =
+        rw (← add-one k, e)
+        (count_by_more_no p (drop a l) k 0 (rw (length-drop a l) (omega arith)) (ap p (get_or-drop a l k 0) ∙ e) ∙ f ∙ sym (add-zero _))
 
 -- a number below n that passes, with k others below it
 pub record Reached (p : ℕ → Bool) (n k : ℕ) : Type 0 where

@@ -6,10 +6,10 @@ use mathlib.Core.Bool.{Bool, true, false}
 use native.Mathlib.Omega.{arith}
 use native.Mathlib.Decide.{dec_lt}
 use native.Mathlib.Numerals.{add-one}
-use lib.ListN.{length, get_or, set, take, drop, length-append, length-drop, get_or-append}
-use lib.Seq.{drop-cons, set_at, take_at, ext_get_or, get_or-append-add, get_or-drop}
+use lib.ListN.{length, get_or, set, take, drop, replicate, length-append, length-drop, length-replicate, get_or-append, get_or-replicate}
+use lib.Seq.{drop-cons, set_at, take_at, ext_get_or, get_or-append-add, get_or-drop, length-take-le}
 use Rattle.lists.specs.Counting.{choose, count}
-use Rattle.lists.specs.Tables.{grow, tab, over, only_if, chosen, front}
+use Rattle.lists.specs.Tables.{grow, tab, over, always, only_if, chosen, front}
 use Rattle.lists.proofs.Net.{length-grow, grow-solves}
 
 module _ (f : ℕ → ℕ) where
@@ -78,6 +78,16 @@ over-is f d xs n l e p q =
 -- two rules that agree below n make one buffer
 pub over-same : (f g : ℕ → ℕ) (d : List ℕ) (n : ℕ) → ((i : ℕ) → i < n → f i ≡ g i) → over n f d ≡ over n g d
 over-same f g d n e = ap (◌++ drop n d) (tab-same f g n e)
+
+-- a buffer whose first n words were filled with one number
+pub over-fill : (n v : ℕ) (d : List ℕ) {xs : List ℕ} → n ≤ length d → xs ≡ replicate (length (take n d)) v → xs ++ drop n d ≡ over n (always v) d
+over-fill n v d h e =
+    let l : length (replicate n v) ≡ n = length-replicate n v in
+    let t : replicate n v ≡ tab (always v) n =
+    ext_get_or 0 (replicate n v) (tab (always v) n) (l ∙ sym (length-tab (always v) n)) (λ i k.
+    let m : i < n = omega arith in
+    get_or-replicate n i v 0 m ∙ sym (tab-at (always v) n i m)) in
+    ap (◌++ drop n d) (e ∙ ap (λ (k : ℕ). replicate k v) (length-take-le n d h) ∙ t)
 
 -- numbers that pass, and a buffer that has them at its front
 length-one : (b : Bool) (n : ℕ) → length (only_if b n) ≡ choose b 1 0

@@ -1,19 +1,22 @@
 // Lists and numbers with no card in them. The definitions are in specs/, the laws that the crates above cite in proofs/.
 #![tactic(auto)]
 
-ghost use Rattle.std.specs.Prelude.{◌≡◌, ◌≤◌, ◌<◌, length, get_or, set};
+ghost use Rattle.std.specs.Prelude.{◌≡◌, ℕ, ◌≤◌, ◌<◌, length, get_or, set};
 ghost use Rattle.lists.specs.Tables.{over, always};
+
+// Room for N words, each of them v.
+pub fn filled<const N: usize>(v: u32) -> [u32; N]
+    ensures { (N ≡ length result) × ((i : ℕ) → i < N → get_or result i 0 ≡ v) }
+{
+    [v; N]
+}
 
 // The first n words of a buffer become v; the others stay.
 pub fn fill(buffer: &mut [u32], n: usize, v: u32)
     requires { n ≤ length buffer.old }
     ensures { buffer.new ≡ over n (always v) buffer.old }
 {
-    let mut i = 0;
-    while i < n {
-        buffer[i] = v;
-        i += 1;
-    }
+    buffer[..n].fill(v);
 }
 
 // The word at a place of a slice, and a store there: one need each where an index would leave several.

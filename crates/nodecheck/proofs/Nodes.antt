@@ -8,12 +8,11 @@ use native.Mathlib.Nat.{sub-zero}
 use native.Mathlib.Numerals.{add-one}
 use native.Mathlib.Omega.{arith}
 use lib.ListN.{length}
-use Rattle.reader.specs.Due.{due_at, after_at}
-use Rattle.reader.specs.declared.Due.{Due}
+use Rattle.reader.specs.Due.{Due, due_at, after_at}
 use Rattle.reader.proofs.Laws.{after-word}
-use Rattle.answers.specs.declared.Rule.{Rule}
-use Rattle.answers.specs.declared.Verdict.{Verdict}
-use Rattle.answers.specs.declared.Verdict.TheVariants.{Sound, Broken}
+use Rattle.answers.specs.declared.Refusal.{Refusal}
+use Rattle.std.specs.Prelude.{Ok, Err}
+use Rattle.answers.specs.Answers.{Verdict}
 use Rattle.answers.proofs.Tests.{not_sound}
 use Rattle.form.specs.Check.{read_verdict, exits_verdict, nodes_verdict}
 use Rattle.form.proofs.Verdicts.{read_told, exits-sound, exits-inside}
@@ -39,10 +38,10 @@ module _ (ws : List ℕ) (h g n : ℕ) (few : n ≤ 4096) where
     same = ap (λ (m : ℕ). nodes_verdict ws g h n m 0) (sub-zero n);
   }
 
-  broken : (r : Rule) (q m : ℕ) (zs : List ℕ) → Broken r q ≡ nodes_verdict ws g h n n 0 → NodesTold ws h g n zs m (Broken r q)
-  broken r q m zs e = record { verdict = e; names = λ z. absurd (not_sound r q z); next = λ z. absurd (not_sound r q z) }
+  broken : (r : Refusal) (m : ℕ) (zs : List ℕ) → Err r ≡ nodes_verdict ws g h n n 0 → NodesTold ws h g n zs m (Err r)
+  broken r m zs e = record { verdict = e; names = λ z. absurd (not_sound r z); next = λ z. absurd (not_sound r z) }
 
-  pub finished : {k p : ℕ} {tb : List ℕ} (i : Going ws h g n k p tb) → n ≤ k → NodesTold ws h g n tb p Sound
+  pub finished : {k p : ℕ} {tb : List ℕ} (i : Going ws h g n k p tb) → n ≤ k → NodesTold ws h g n tb p (Ok tt)
   finished {k = k} {tb = tb} i l =
       let e : k ≡ n = omega (arith, l, i.within) in
       record {
@@ -56,11 +55,11 @@ module _ (ws : List ℕ) (h g n : ℕ) (few : n ≤ 4096) where
     pub read_is : (v : Verdict) → ReadTold a g v → v ≡ read_verdict ws g (h + 1 + 2 * k)
     read_is v told = told ws p ea ∙ ap (read_verdict ws g) i.at
 
-    pub bad-read : (r : Rule) (q m : ℕ) (zs : List ℕ) → ReadTold a g (Broken r q) → NodesTold ws h g n zs m (Broken r q)
-    bad-read r q m zs told = broken r q m zs (sym (read-stops ws g h n k less r q (sym (read_is (Broken r q) told))) ∙ i.same)
+    pub bad-read : (r : Refusal) (m : ℕ) (zs : List ℕ) → ReadTold a g (Err r) → NodesTold ws h g n zs m (Err r)
+    bad-read r m zs told = broken r m zs (sym (read-stops ws g h n k less r (sym (read_is (Err r) told))) ∙ i.same)
 
     -- the read is sound: its exits stand at the next place
-    module _ (told : ReadTold a g Sound) where
+    module _ (told : ReadTold a g (Ok tt)) where
       pub on : after_at ws p ≡ h + 2 + 2 * k
       on =
           let there : p < length ws = (read_told ws g p (sym (told ws p ea))).there in
@@ -70,14 +69,14 @@ module _ (ws : List ℕ) (h g n : ℕ) (few : n ≤ 4096) where
         exits-is : v ≡ exits_verdict ws n k (h + 2 + 2 * k)
         exits-is = et.verdict ws (after_at ws p) ed ∙ ap (exits_verdict ws n k) on
 
-      pub bad-exits : (d : Due) → d ≡ due_at ws (after_at ws p) → (r : Rule) (q m : ℕ) (zs : List ℕ) → ExitsTold d n k tb zs
-          (Broken r q) → NodesTold ws h g n zs m (Broken r q)
-      bad-exits d ed r q m zs et = broken r q m zs (sym (exits-stop ws g h n k less (sym (read_is Sound told)) r q
-          (sym (exits-is d ed (Broken r q) zs et))) ∙ i.same)
+      pub bad-exits : (d : Due) → d ≡ due_at ws (after_at ws p) → (r : Refusal) (m : ℕ) (zs : List ℕ) → ExitsTold d n k tb zs
+          (Err r) → NodesTold ws h g n zs m (Err r)
+      bad-exits d ed r m zs et = broken r m zs (sym (exits-stop ws g h n k less (sym (read_is (Ok tt) told)) r
+          (sym (exits-is d ed (Err r) zs et))) ∙ i.same)
 
-      module _ (d : Due) (ed : d ≡ due_at ws (after_at ws p)) (zs : List ℕ) (et : ExitsTold d n k tb zs Sound) where
-        pub good : exits_verdict ws n k (h + 2 + 2 * k) ≡ Sound
-        good = sym (exits-is d ed Sound zs et)
+      module _ (d : Due) (ed : d ≡ due_at ws (after_at ws p)) (zs : List ℕ) (et : ExitsTold d n k tb zs (Ok tt)) where
+        pub good : exits_verdict ws n k (h + 2 + 2 * k) ≡ Ok tt
+        good = sym (exits-is d ed (Ok tt) zs et)
 
         pub named_by : (m : ℕ) → m ≡ h + 2 + 2 * k → d ≡ due_at ws m → (length zs ≡ length tb) × Names ws h n (k + 1) zs
         named_by m em e =
@@ -101,7 +100,7 @@ module _ (ws : List ℕ) (h g n : ℕ) (few : n ≤ 4096) where
           at = there-too;
           len = (named_by (after_at ws p) on ed).0 ∙ i.len;
           names = (named_by (after_at ws p) on ed).1;
-          same = sym (nodes-go ws g h n k less (sym (read_is Sound told)) good) ∙ i.same;
+          same = sym (nodes-go ws g h n k less (sym (read_is (Ok tt) told)) good) ∙ i.same;
         }
 
         pub nearer : n - (k + 1) < n - k

@@ -15,23 +15,22 @@ use Rattle.lists.specs.Tables.{over, always}
 use Rattle.lists.proofs.Tests.{some_same, some-has}
 use Rattle.lists.proofs.Tables.{over-at, over-rest, length_over}
 use Rattle.word32.specs.Fields.{exit_of}
-use Rattle.answers.specs.declared.Rule.{Rule}
-use Rattle.answers.specs.declared.Verdict.{Verdict}
-use Rattle.answers.specs.declared.Verdict.TheVariants.{Sound, Broken}
+use Rattle.std.specs.Prelude.{Ok, Err}
+use Rattle.answers.specs.Answers.{Verdict}
+use Rattle.answers.specs.declared.Refusal.{Refusal}
 use Rattle.form.specs.Check.{word, names, unnamed}
 use Rattle.nodecheck.specs.Table.{exits_told, name_exit, Blank, Names, zero_after}
-use Rattle.nodecheck.specs.declared.Exits.TheVariants as exits
 
 -- what a part hands back tells its verdict
-pub both-sound : (v : Verdict) (w a b : ℕ) → exits_told v w ≡ exits.Both a b → (v ≡ Sound) × (a ≡ exit_of w 0) × (b ≡ exit_of w 1)
+pub both-sound : (v : Verdict) (w : ℕ) (x : ℕ × ℕ) → exits_told v w ≡ Ok x → (v ≡ Ok tt) × (x ≡ (exit_of w 0, exit_of w 1))
 unfolding exits_told
-both-sound Sound w a b e = (refl, cc, cc)
-both-sound (Broken r p) w a b e = let z : ◌≡◌ {A = ℕ} 0 1 = cc in absurd (omega arith)
+both-sound (Ok tt) w x e = (refl, cc)
+both-sound (Err r) w x e = let z : ◌≡◌ {A = ℕ} 0 1 = cc in absurd (omega arith)
 
-pub bad-broken : (v : Verdict) (w : ℕ) (r : Rule) (p : ℕ) → exits_told v w ≡ exits.Bad r p → v ≡ Broken r p
+pub bad-broken : (v : Verdict) (w : ℕ) (r : Refusal) → exits_told v w ≡ Err r → v ≡ Err r
 unfolding exits_told
-bad-broken Sound w r p e = let z : ◌≡◌ {A = ℕ} 0 1 = cc in absurd (omega arith)
-bad-broken (Broken r' p') w r p e = cc
+bad-broken (Ok tt) w r e = let z : ◌≡◌ {A = ℕ} 0 1 = cc in absurd (omega arith)
+bad-broken (Err r') w r e = cc
 
 -- an exit in the table
 pub name-none : (e : ℕ) (t : List ℕ) → e ≤ 1 → t ≡ name_exit e t

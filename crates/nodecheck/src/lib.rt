@@ -6,18 +6,11 @@ ghost use Rattle.answers.specs.Limits.{max_nodes};
 ghost use Rattle.form.specs.Check.{misplaced};
 ghost use Rattle.nodecheck.specs.Table.{ReadWord, ReadTold, ExitsWord, ExitsOf, name_exit, Blank, ExitsTold, NodesTold, zero_after, UnnamedTold};
 
-use answers::{MAX_NODES, Rule, Verdict};
+use answers::{MAX_NODES, Refusal, Rule};
 use reader::{Due, Reader};
 
 // A word for each local node of any graph: 1 where an exit names it, and else 0.
 pub type Named = [u32; MAX_NODES];
-
-// A node's two exits, where they are sound.
-#[derive(Clone, Copy)]
-enum Exits {
-    Both(usize, usize),
-    Bad(Rule, usize),
-}
 
 // The table in which no node is named.
 pub fn none_named() -> Named
@@ -27,28 +20,28 @@ pub fn none_named() -> Named
 }
 
 // The word w at a place, as the read of a node in graph g.
-fn word_as_read(w: u32, at: usize, g: usize) -> Verdict
+fn word_as_read(w: u32, at: usize, g: usize) -> Result<(), Refusal>
     ensures { ReadWord w at g result }
 {
     if word32::kind(w) != 3 {
-        return Verdict::Broken(Rule::WordNotDue, at);
+        return Err(Refusal(Rule::WordNotDue, at));
     }
     if word32::read_spare(w) != 0 {
-        return Verdict::Broken(Rule::StrayBit, at);
+        return Err(Refusal(Rule::StrayBit, at));
     }
     if g <= word32::read_graph(w) {
-        return Verdict::Broken(Rule::ReadNotBelow, at);
+        return Err(Refusal(Rule::ReadNotBelow, at));
     }
-    Verdict::Sound
+    Ok(())
 }
 
 // The read of a node in graph g, from what was due.
-fn check_read(due: Due, g: usize) -> Verdict
+fn check_read(due: Due, g: usize) -> Result<(), Refusal>
     ensures { ReadTold due g result }
 {
     match due {
-        Due::Word(w, at) => word_as_read(w, at, g),
-        Due::End(len) => Verdict::Broken(Rule::WordNotDue, len),
+        Ok((w, at)) => word_as_read(w, at, g),
+        Err(len) => Err(Refusal(Rule::WordNotDue, len)),
     }
 }
 
@@ -67,35 +60,35 @@ fn is_misplaced(n: usize, k: usize, e: usize) -> bool
 }
 
 // The word w at a place, as the exits of local node k in a graph of n nodes.
-fn word_as_exits(w: u32, at: usize, n: usize, k: usize) -> Exits
+fn word_as_exits(w: u32, at: usize, n: usize, k: usize) -> Result<(usize, usize), Refusal>
     requires { (n ≤ max_nodes) × (k < n) }
     ensures { ExitsWord w at n k result }
 {
     let e0 = word32::exit0(w);
     let e1 = word32::exit1(w);
     if word32::kind(w) != 4 {
-        return Exits::Bad(Rule::WordNotDue, at);
+        return Err(Refusal(Rule::WordNotDue, at));
     }
     if word32::exits_spare(w) != 0 {
-        return Exits::Bad(Rule::StrayBit, at);
+        return Err(Refusal(Rule::StrayBit, at));
     }
     if is_misplaced(n, k, e0) {
-        return Exits::Bad(Rule::ExitNotLater, at);
+        return Err(Refusal(Rule::ExitNotLater, at));
     }
     if is_misplaced(n, k, e1) {
-        return Exits::Bad(Rule::ExitNotLater, at);
+        return Err(Refusal(Rule::ExitNotLater, at));
     }
-    Exits::Both(e0, e1)
+    Ok((e0, e1))
 }
 
 // The exits of local node k in a graph of n nodes, from what was due.
-fn read_exits(due: Due, n: usize, k: usize) -> Exits
+fn read_exits(due: Due, n: usize, k: usize) -> Result<(usize, usize), Refusal>
     requires { (n ≤ max_nodes) × (k < n) }
     ensures { ExitsOf due n k result }
 {
     match due {
-        Due::Word(w, at) => word_as_exits(w, at, n, k),
-        Due::End(len) => Exits::Bad(Rule::WordNotDue, len),
+        Ok((w, at)) => word_as_exits(w, at, n, k),
+        Err(end) => Err(Refusal(Rule::WordNotDue, end)),
     }
 }
 
@@ -111,39 +104,27 @@ fn name_exit(table: &mut Named, e: usize)
 }
 
 // The exits of local node k in a graph of n nodes, from what was due; what they name goes into the table.
-fn check_exits(due: Due, n: usize, k: usize, table: &mut Named) -> Verdict
+fn check_exits(due: Due, n: usize, k: usize, table: &mut Named) -> Result<(), Refusal>
     requires { (n ≤ max_nodes) × (k < n) }
     ensures { ExitsTold due n k table.old table.new result }
 {
-    match read_exits(due, n, k) {
-        Exits::Bad(rule, position) => Verdict::Broken(rule, position),
-        Exits::Both(e0, e1) => {
-            name_exit(table, e0);
-            name_exit(table, e1);
-            Verdict::Sound
-        }
-    }
+    let (e0, e1) = read_exits(due, n, k)?;
+    name_exit(table, e0);
+    name_exit(table, e1);
+    Ok(())
 }
 
 // The n nodes of graph g, from where the reader stands, just after the header. The table, blank at first, then has the local nodes that exits name.
-pub fn check_nodes<'s, 'a>(r: &'s mut Reader<'a>, g: usize, n: usize, table: &mut Named) -> Verdict
+pub fn check_nodes(r: &mut Reader<'_>, g: usize, n: usize, table: &mut Named) -> Result<(), Refusal>
     requires { (n ≤ max_nodes) × (0 < r.old.at) × Blank table.old }
     ensures { NodesTold r.old.words.now (r.old.at - 1) g n table.new r.new.at result
         × (r.new.words ≡ r.old.words) }
 {
-    let mut k = 0;
-    while k < n {
-        let read = check_read(reader::next(r), g);
-        let Verdict::Sound = read else {
-            return read;
-        };
-        let exits = check_exits(reader::next(r), n, k, table);
-        let Verdict::Sound = exits else {
-            return exits;
-        };
-        k = k + 1;
+    for k in 0..n {
+        check_read(r.next(), g)?;
+        check_exits(r.next(), n, k, table)?;
     }
-    Verdict::Sound
+    Ok(())
 }
 
 // Whether one of the table's places 1 to n - 1 is 0.

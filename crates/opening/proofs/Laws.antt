@@ -7,10 +7,8 @@ use lib.ListN.{length, take}
 use lib.Dec.{ltb}
 use Rattle.answers.specs.declared.Counts.{Counts}
 use Rattle.answers.specs.declared.Rule.TheVariants.{VectorForm}
-use Rattle.answers.specs.declared.Verdict.{Verdict}
-use Rattle.answers.specs.declared.Verdict.TheVariants.{Sound}
-use Rattle.answers.specs.declared.Answer.{Answer}
-use Rattle.answers.specs.declared.Answer.TheVariants.{Accepted, Refused}
+use Rattle.std.specs.Prelude.{Ok, Err}
+use Rattle.answers.specs.Answers.{Verdict, Answer}
 use Rattle.answers.specs.Tests.{test, first_broken}
 use Rattle.answers.specs.Calls.{Lent, Work, opened, following, outcome}
 use Rattle.answers.specs.Ends.{Stands, clip}
@@ -29,21 +27,21 @@ use Rattle.testvectors.proofs.Clip.{vector-clip, sound-clip}
 use Rattle.opening.specs.Opened.{opened_vector, opened_list}
 
 -- an opened call has an accepted card, and vectors of the form
-module _ (verdict : ℕ → List ℕ → Verdict) (card v : Lent) {c : Counts} (e : opened (lent_check card) (λ c. lent_form verdict c.inputs v) ≡ Accepted c) where
-  pub lent-checked : lent_check card ≡ Accepted c
+module _ (verdict : ℕ → List ℕ → Verdict) (card v : Lent) {c : Counts} (e : opened (lent_check card) (λ c. lent_form verdict c.inputs v) ≡ Ok c) where
+  pub lent-checked : lent_check card ≡ Ok c
   lent-checked = (opened-accepted (lent_check card) (λ c. lent_form verdict c.inputs v) e).0
 
   pub lent-accepted : Accepts card.words c
   lent-accepted = check-accepts _ _ _ lent-checked
 
-  pub lent-sound : verdict c.inputs v.words ≡ Sound
+  pub lent-sound : verdict c.inputs v.words ≡ Ok tt
   unfolding lent_form
   lent-sound =
       (then-sound (first_broken (test (ltb 0 v.extra) VectorForm 0 ∷ [])) (verdict c.inputs v.words)
       (opened-accepted (lent_check card) (λ c. lent_form verdict c.inputs v) e).1).1
 
 -- what the work on one vector asks
-pub vector-asks : (card v : Lent) {c : Counts} → opened_vector card v ≡ Accepted c → Shape card.words c × (width c.inputs ≤ length v.words)
+pub vector-asks : (card v : Lent) {c : Counts} → opened_vector card v ≡ Ok c → Shape card.words c × (width c.inputs ≤ length v.words)
 vector-asks card v {c} e =
     ((lent-accepted vector_verdict card v e).shape, omega (arith, vector-long c.inputs v.words (lent-sound vector_verdict card v e)))
 
@@ -53,9 +51,9 @@ module _ (verdict : ℕ → List ℕ → Verdict) (low : (m : ℕ) (xs : List �
   open-low = go (lent_check card) refl
     where
       go : (a : Answer) → lent_check card ≡ a → LowAnswer 4294967295 (opened a (λ c. lent_form verdict c.inputs v))
-      go (Refused r p) q = rw q at (check-low card.words card.extra)
-      go (Accepted c) q =
-          onward-low 4294967295 (lent_form verdict c.inputs v) (Accepted c)
+      go (Err r) q = rw q at (check-low card.words card.extra)
+      go (Ok c) q =
+          onward-low 4294967295 (lent_form verdict c.inputs v) (Ok c)
           (form-low verdict c.inputs v (low c.inputs v.words (some-inputs (check-accepts _ _ _ q)).1)) (λ s. tt)
 
 module _ (card v : Lent) (f : Counts → Work) (t : (c : Counts) → LowTests 4294967295 (f c).tests) where
@@ -72,8 +70,8 @@ module _ (card v : Lent) where
   open-clip = rw (check-clip card) (go (lent_check card) refl)
     where
       go : (a : Answer) → lent_check card ≡ a → opened a (λ c. lent_form vector_verdict c.inputs (clip 65 v)) ≡ opened a (λ c. lent_form vector_verdict c.inputs v)
-      go (Refused r p) q = refl
-      go (Accepted c) q = rw (vector-clip c.inputs (some-inputs (check-accepts _ _ _ q)).1 v.words)
+      go (Err r) q = refl
+      go (Ok c) q = rw (vector-clip c.inputs (some-inputs (check-accepts _ _ _ q)).1 v.words)
 
   pub vector-call-clip : (F : List ℕ → List ℕ → Counts → Work)
       → outcome (opened_vector (clip 9217 card) (clip 65 v)) (F (take 9217 card.words) (take 65 v.words)) ≡ outcome (opened_vector card v) (F card.words v.words)
@@ -81,8 +79,8 @@ module _ (card v : Lent) where
   vector-call-clip F = rw open-clip (go (opened_vector card v) refl)
     where
       go : (a : Answer) → opened_vector card v ≡ a → outcome a (F (take 9217 card.words) (take 65 v.words)) ≡ outcome a (F card.words v.words)
-      go (Refused r p) q = refl
-      go (Accepted c) q =
+      go (Err r) q = refl
+      go (Ok c) q =
           let few = (some-inputs (lent-accepted vector_verdict card v q)).1 in
           rw (accepted-clip card (lent-checked vector_verdict card v q), sound-clip c.inputs few v.words (lent-sound vector_verdict card v q))
 
@@ -93,5 +91,5 @@ module _ (card v : Lent) where
   list-call-clip F = rw (check-clip card) (go (opened_list card v) refl)
     where
       go : (a : Answer) → opened_list card v ≡ a → outcome a (F (take 9217 card.words)) ≡ outcome a (F card.words)
-      go (Refused r p) q = refl
-      go (Accepted c) q = rw (accepted-clip card (lent-checked list_verdict card v q))
+      go (Err r) q = refl
+      go (Ok c) q = rw (accepted-clip card (lent-checked list_verdict card v q))

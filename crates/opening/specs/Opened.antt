@@ -1,5 +1,5 @@
 -- HOW A CALL ON A CARD OPENS: the card's check, and then the form of its vectors, one or a list. Assumes nothing.
-use Rattle.answers.specs.declared.Answer.{Answer}
+use Rattle.answers.specs.Answers.{Answer}
 use Rattle.answers.specs.Calls.{Lent, opened}
 use Rattle.form.specs.Check.{lent_check}
 use Rattle.testvectors.specs.Vectors.{vector_verdict, list_verdict, lent_form}

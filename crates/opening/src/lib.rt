@@ -3,42 +3,27 @@
 #![tactic(auto)]
 
 ghost use Rattle.std.specs.Prelude.{◌≡◌};
-ghost use Rattle.answers.specs.Calls.{lent};
+ghost use Rattle.answers.specs.Calls.{lends};
 ghost use Rattle.testvectors.specs.Lists.{lent_list};
 ghost use Rattle.opening.specs.Opened.{opened_vector, opened_list};
 
-use answers::{Answer, Verdict};
+use answers::{Counts, Lent, Refusal};
+use testvectors::VectorList;
 
 // A card and one vector.
-pub fn open_vector(card: &[u32], extra: usize, vector: &[u32], left: usize) -> Answer
-    ensures { result ≡ opened_vector (lent card.now extra) (lent vector.now left) }
+pub fn open_vector(card: Lent<'_>, vector: Lent<'_>) -> Result<Counts, Refusal>
+    ensures { result ≡ opened_vector (lends card.entry) (lends vector.entry) }
 {
-    match cardcheck::check_with(card, extra) {
-        Answer::Refused(rule, position) => Answer::Refused(rule, position),
-        Answer::Accepted(c) => {
-            let inputs = c.inputs;
-            if let Verdict::Broken(rule, position) = testvectors::check_vector(
-                inputs, vector, left,
-            ) {
-                return Answer::Refused(rule, position);
-            }
-            Answer::Accepted(c)
-        }
-    }
+    let c = cardcheck::check_lent(card)?;
+    testvectors::check_vector(c.inputs, vector)?;
+    Ok(c)
 }
 
-// A card and a list of vectors, by words or in bytes.
-pub fn open_list(card: &[u32], extra: usize, words: &[u32], bytes: &[u8]) -> Answer
-    ensures { result ≡ opened_list (lent card.now extra) (lent_list words.now bytes.now) }
+// A card and a list of vectors.
+pub fn open_list(card: Lent<'_>, list: VectorList<'_>) -> Result<Counts, Refusal>
+    ensures { result ≡ opened_list (lends card.entry) (lent_list list.entry) }
 {
-    match cardcheck::check_with(card, extra) {
-        Answer::Refused(rule, position) => Answer::Refused(rule, position),
-        Answer::Accepted(c) => {
-            let inputs = c.inputs;
-            if let Verdict::Broken(rule, position) = testvectors::check_list(inputs, words, bytes) {
-                return Answer::Refused(rule, position);
-            }
-            Answer::Accepted(c)
-        }
-    }
+    let c = cardcheck::check_lent(card)?;
+    testvectors::check_list(c.inputs, list)?;
+    Ok(c)
 }

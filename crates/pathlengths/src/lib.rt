@@ -31,9 +31,7 @@ pub fn path_lengths(card: &[u32], c: Counts, values: &[u32], lengths: &mut [u32]
 {
     let mut firsts = layout::first_table();
     layout::first_nodes(card, c, &mut firsts);
-    let mut g = 0;
-    while g < c.graphs {
-        lengths[g] = path_length(card, c, &firsts, g, values);
-        g += 1;
+    for (g, length) in lengths[..c.graphs].iter_mut().enumerate() {
+        *length = path_length(card, c, &firsts, g, values);
     }
 }

@@ -2,7 +2,7 @@
 use Prim.Native.Nat.{ℕ}
 use mathlib.Core.Path.{◌≡◌, sym, ap, ◌∙◌}
 use Rattle.lists.specs.Tables.{tab}
-use Rattle.answers.specs.declared.Reply.TheVariants as reply
+use Rattle.std.specs.Prelude.{Ok}
 use Rattle.answers.proofs.Calls.{call-went}
 use Rattle.testvectors.specs.Vectors.{vector_verdict}
 use Rattle.value.specs.Settings.{Setting, faulty}
@@ -16,7 +16,7 @@ use Rattle.opening.proofs.Laws.{lent-checked}
 use Rattle.plain.specs.Calls.{values_work, fault_outcome}
 use Rattle.plain.specs.Done.{AllHold}
 
-pub fault-done : (card v fs : Lent) (room : ℕ) {n : ℕ} → (fault_outcome card v fs room).reply ≡ reply.Done n → AllHold card v fs room
+pub fault-done : (card v fs : Lent) (room : ℕ) {n : ℕ} → (fault_outcome card v fs room).reply ≡ Ok n → AllHold card v fs room
 fault-done card v fs room e =
     let w = call-went (opened_vector card v) (values_work (fault_tests fs.extra fs.words room) (faulty fs.words) card.words v.words) e in
     let c = w.counted in

@@ -6,7 +6,7 @@ use mathlib.Core.List.{List, [], ◌∷◌, Perm}
 use mathlib.Core.Bool.{or-false}
 use lib.Dec.{leb}
 use Rattle.answers.specs.declared.Counts.{Counts}
-use Rattle.answers.specs.declared.Verdict.TheVariants.{Sound}
+use Rattle.std.specs.Prelude.{Ok}
 use Rattle.answers.specs.Tests.{Test, first_broken}
 use Rattle.value.specs.Settings.{Setting}
 use Rattle.value.proofs.Settings.{faulty-none, faulty-one}
@@ -31,10 +31,10 @@ one-tested f room c = rw (or-false (leb c.faults f))
 module _ (card v : Lent) where
   -- two calls whose own tests have one verdict, and whose settings are one where it is sound
   pub one-call : (own other : Counts → List Test) (s t : Setting) → ((c : Counts) → first_broken (own c) ≡ first_broken (other c))
-      → ((c : Counts) → first_broken (other c) ≡ Sound → s ≡ t) → values_outcome own s card v ≡ values_outcome other t card v
+      → ((c : Counts) → first_broken (other c) ≡ Ok tt → s ≡ t) → values_outcome own s card v ≡ values_outcome other t card v
   one-call own other s t same e =
       outcome-same (opened_vector card v) (values_work own s card.words v.words) (values_work other t card.words v.words) (λ c a. same c)
-      (λ c a h. ap (λ (u : Setting). outcome_by Sound (values_work own u card.words v.words c)) (e c h))
+      (λ c a h. ap (λ (u : Setting). outcome_by (Ok tt) (values_work own u card.words v.words c)) (e c h))
 
   -- THE EMPTY LIST
   pub none-good : (room : ℕ) → fault_outcome card v (whole []) room ≡ good_outcome card v room

@@ -12,12 +12,8 @@ pub struct Reader<'a> {
     pub at: usize,
 }
 
-// What is due: a word and its position, or the end and the number of words.
-#[derive(Clone, Copy)]
-pub enum Due {
-    Word(u32, usize),
-    End(usize),
-}
+// What is due: a word and its position, or at the end the number of words.
+pub type Due = Result<(u32, usize), usize>;
 
 // What is due at a position of a slice.
 #[tactic(auto, unfolding(crate::specs::Due::due_at))]
@@ -25,9 +21,9 @@ pub fn word_at(words: &[u32], at: usize) -> Due
     ensures { result ≡ due_at words.now at }
 {
     if at < words.len() {
-        Due::Word(words[at], at)
+        Ok((words[at], at))
     } else {
-        Due::End(words.len())
+        Err(words.len())
     }
 }
 
@@ -39,21 +35,21 @@ pub fn after(words: &[u32], at: usize) -> usize
     if at < words.len() { at + 1 } else { at }
 }
 
-// A reader of the lent words that stands at a position.
-pub fn new<'a>(words: &'a [u32], at: usize) -> Reader<'a>
-    ensures { (result.words ≡ words.entry) × (result.at ≡ at) }
-{
-    Reader { words, at }
-}
+impl<'a> Reader<'a> {
+    // A reader of the lent words that stands at a position.
+    pub fn new(words: &'a [u32], at: usize) -> Reader<'a>
+        ensures { (result.words ≡ words.entry) × (result.at ≡ at) }
+    {
+        Reader { words, at }
+    }
 
-// What is due where the reader stands; and the reader goes one word on, or stays at the end.
-pub fn next<'s, 'a>(r: &'s mut Reader<'a>) -> Due
-    ensures { (result ≡ due_at r.old.words.now r.old.at)
-        × ((r.new.words ≡ r.old.words) × (r.new.at ≡ after_at r.old.words.now r.old.at)) }
-{
-    let words = r.words;
-    let at = r.at;
-    let due = word_at(words, at);
-    r.at = after(words, at);
-    due
+    // What is due where the reader stands; and the reader goes one word on, or stays at the end.
+    pub fn next(&mut self) -> Due
+        ensures { (result ≡ due_at self.old.words.now self.old.at)
+            × ((self.new.words ≡ self.old.words) × (self.new.at ≡ after_at self.old.words.now self.old.at)) }
+    {
+        let due = word_at(self.words, self.at);
+        self.at = after(self.words, self.at);
+        due
+    }
 }

@@ -1,7 +1,7 @@
 -- The cases of the text, and what the grading tells of it. Assumes nothing.
 use Prim.Native.Nat.{ℕ, suc, zero, ◌+◌, ◌-◌, ◌*◌, ◌/◌, ◌%◌, ◌<◌, ◌≤◌}
 use mathlib.Core.Path.{◌≡◌, refl, sym, ap, ap₂, ◌∙◌}
-use mathlib.Core.List.{List, []}
+use mathlib.Core.List.{List}
 use native.Mathlib.Omega.{arith}
 use native.Mathlib.Decide.{dec_lt}
 use lib.ListN.{length, get_or, take, drop, length-drop}
@@ -11,26 +11,21 @@ use Rattle.lists.specs.Tables.{over}
 use Rattle.lists.proofs.Tables.{over-at, over-front}
 use Rattle.lists.proofs.Tests.{or-true}
 use Rattle.word32.specs.Bytes.{word_at, words_of}
-use Rattle.answers.specs.declared.Rule.{Rule}
 use Rattle.answers.specs.declared.Counts.{Counts}
-use Rattle.answers.specs.declared.Verdict.{Verdict}
-use Rattle.answers.specs.declared.Verdict.TheVariants.{Sound, Broken}
-use Rattle.answers.specs.declared.Answer.{Answer}
-use Rattle.answers.specs.declared.Answer.TheVariants.{Accepted, Refused}
-use Rattle.answers.specs.Answers.{number_of}
+use Rattle.std.specs.Prelude.{Ok, Err}
+use Rattle.answers.specs.Answers.{Verdict, Answer}
+use Rattle.answers.specs.declared.Refusal.{Refusal}
 use Rattle.form.specs.Check.{checked}
 use Rattle.answers.specs.Tests.{onward}
-use Rattle.answers.specs.Calls.{whole, opened}
+use Rattle.answers.specs.Calls.{whole, opened, Lent, lent}
 use Rattle.answers.proofs.Calls.{opened-accepted}
 use Rattle.cardtables.specs.Stems.{total}
 use Rattle.testvectors.specs.Vectors.{list_verdict, lent_form}
-use Rattle.testvectors.specs.Lists.{list_words, lent_list}
-use Rattle.testvectors.proofs.Lists.{bytes-alone}
 use Rattle.opening.specs.Opened.{opened_list}
 use Rattle.detect.specs.Grading.{mark, tally, marked}
 use Rattle.grade.specs.Graded.{GradedList}
 use Rattle.textlines.specs.Text.{short_line, long_line, refused_line, fault_lines, grading_text}
-use Rattle.report.specs.Report.{unless_broken, if_accepted, graded_text, word_count, card_bytes, vector_bytes, text_of, bytes_wanted}
+use Rattle.report.specs.Report.{refusal_text, unless_broken, if_accepted, graded_text, word_count, card_bytes, vector_bytes, text_of, bytes_wanted}
 
 -- THE TEXT by its cases
 module _ (b : List ℕ) where
@@ -113,31 +108,34 @@ module _ (b : List ℕ) where
 
 -- the refusal of the card or of the list, whose bytes are whole words, and the grading
 module _ (ws bs : List ℕ) (h : length bs % 4 ≡ 0) where
-  opened-words : opened_list (whole ws) (lent_list [] bs) ≡ opened (checked ws) (λ c. list_verdict c.inputs (words_of bs))
+  abbrev pub list_in_bytes : Lent
+  list_in_bytes = lent (words_of bs) (length bs % 4)
+
+  opened-words : opened_list (whole ws) list_in_bytes ≡ opened (checked ws) (λ c. list_verdict c.inputs (words_of bs))
   unfolding lent_form
   opened-words =
-      let same : lent_list [] bs ≡ whole (words_of bs) = rw (bytes-alone bs, h) in
+      let same : list_in_bytes ≡ whole (words_of bs) = rw h in
       ap (opened_list (whole ws)) same
 
-  pub graded-refused : {r : Rule} {p : ℕ} → opened_list (whole ws) (lent_list [] bs) ≡ Refused r p → graded_text ws (words_of bs) ≡ refused_line (number_of r) p
+  pub graded-refused : {r : Refusal} → opened_list (whole ws) list_in_bytes ≡ Err r → graded_text ws (words_of bs) ≡ refusal_text r
   unfolding graded_text
-  graded-refused {r} {p} e = of (checked ws) _ (sym opened-words ∙ e)
+  graded-refused {r} e = of (checked ws) _ (sym opened-words ∙ e)
     where
-      list : (v : Verdict) (c : Counts) (text : List ℕ) → onward v (Accepted c) ≡ Refused r p → unless_broken v text ≡ refused_line (number_of r) p
-      list Sound c text z = let f : ◌≡◌ {A = ℕ} 0 1 = cc in absurd (omega arith)
-      list (Broken r' p') c text z = let f : r' ≡ r = cc in let g : p' ≡ p = cc in rw (f, g)
+      list : (v : Verdict) (c : Counts) (text : List ℕ) → onward v (Ok c) ≡ Err r → unless_broken v text ≡ refusal_text r
+      list (Ok tt) c text z = let f : ◌≡◌ {A = ℕ} 0 1 = cc in absurd (omega arith)
+      list (Err r') c text z = let f : r' ≡ r = cc in rw f
 
-      of : (a : Answer) (text : Counts → List ℕ) → opened a (λ c. list_verdict c.inputs (words_of bs)) ≡ Refused r p
-          → if_accepted a (λ c. unless_broken (list_verdict c.inputs (words_of bs)) (text c)) ≡ refused_line (number_of r) p
-      of (Accepted c) text z = list (list_verdict c.inputs (words_of bs)) c (text c) z
-      of (Refused r' p') text z = let f : r' ≡ r = cc in let g : p' ≡ p = cc in rw (f, g)
+      of : (a : Answer) (text : Counts → List ℕ) → opened a (λ c. list_verdict c.inputs (words_of bs)) ≡ Err r
+          → if_accepted a (λ c. unless_broken (list_verdict c.inputs (words_of bs)) (text c)) ≡ refusal_text r
+      of (Ok c) text z = list (list_verdict c.inputs (words_of bs)) c (text c) z
+      of (Err r') text z = let f : r' ≡ r = cc in rw f
 
-  pub graded-done : {c : Counts} → opened_list (whole ws) (lent_list [] bs) ≡ Accepted c → graded_text ws (words_of bs)
-      ≡ grading_text c (mark ws c (list_words [] bs)) (tally ws c (list_words [] bs)) (marked ws c (list_words [] bs)) (total ws c)
+  pub graded-done : {c : Counts} → opened_list (whole ws) list_in_bytes ≡ Ok c → graded_text ws (words_of bs)
+      ≡ grading_text c (mark ws c (words_of bs)) (tally ws c (words_of bs)) (marked ws c (words_of bs)) (total ws c)
   unfolding graded_text
   graded-done e =
       let (a, s) = opened-accepted (checked ws) (λ c. list_verdict c.inputs (words_of bs)) (sym opened-words ∙ e) in
-      rw (a, s, bytes-alone bs)
+      rw (a, s)
 
 -- marks and tallies that agree make one text
 lines_same : (m m' t t' : ℕ → ℕ) (n : ℕ) → ((f : ℕ) → f < n → m f ≡ m' f)

@@ -1,15 +1,12 @@
 -- What cardgrade prints for the bytes that it reads: a card's word count, the card, then vector words to the end; words highest byte first.
 -- Document 01, 'Card S and its neighbours'. By the check, the form of lists, and what faults do to values; by no call. Assumes nothing.
-use Rattle.std.specs.Prelude.{ℕ, ◌+◌, ◌*◌, ◌/◌, ◌%◌, List, not, ◌||◌, length, take, drop, ltb, eqb}
+use Rattle.std.specs.Prelude.{ℕ, ◌+◌, ◌*◌, ◌/◌, ◌%◌, List, not, ◌||◌, length, take, drop, ltb, eqb, Ok, Err}
 use Rattle.lists.specs.Counting.{choose}
 use Rattle.word32.specs.Bytes.{word_at, words_of}
 use Rattle.answers.specs.Limits.{max_words}
 use Rattle.answers.specs.declared.Counts.{Counts}
-use Rattle.answers.specs.declared.Verdict.{Verdict}
-use Rattle.answers.specs.declared.Verdict.TheVariants.{Sound, Broken}
-use Rattle.answers.specs.declared.Answer.{Answer}
-use Rattle.answers.specs.declared.Answer.TheVariants.{Accepted, Refused}
-use Rattle.answers.specs.Answers.{number_of}
+use Rattle.answers.specs.declared.Refusal.{Refusal}
+use Rattle.answers.specs.Answers.{number_of, broken_rule, stands_at, Verdict, Answer}
 use Rattle.form.specs.Check.{checked}
 use Rattle.cardtables.specs.Stems.{total}
 use Rattle.testvectors.specs.Vectors.{list_verdict}
@@ -24,13 +21,16 @@ abbrev pub max_input : ℕ
 max_input = 4 + 4 * max_words + 4 * (max_vector_words + 1)
 
 -- A text, or the line of the refusal that stands in its way. `number_of` gives a rule its number: that of a list's rule is 10.
+abbrev pub refusal_text : Refusal → List ℕ
+refusal_text r = refused_line (number_of (broken_rule r)) (stands_at r)
+
 abbrev pub unless_broken : Verdict → List ℕ → List ℕ
-unless_broken Sound text = text
-unless_broken (Broken r p) text = refused_line (number_of r) p
+unless_broken (Ok tt) text = text
+unless_broken (Err r) text = refusal_text r
 
 abbrev pub if_accepted : Answer → (Counts → List ℕ) → List ℕ
-if_accepted (Accepted c) text = text c
-if_accepted (Refused r p) text = refused_line (number_of r) p
+if_accepted (Ok c) text = text c
+if_accepted (Err r) text = refusal_text r
 
 -- the card ws with the vector words xs: the card's refusal, the list's, or the grading
 unfoldable pub graded_text : List ℕ → List ℕ → List ℕ

@@ -13,7 +13,8 @@ ghost use Rattle.textlines.specs.Text.{max_text, grading_text};
 ghost use Rattle.textlines.specs.Puts.{Puts};
 ghost use Rattle.report.specs.Report.{max_input, word_count, graded_text, text_of, bytes_wanted};
 
-use answers::{Answer, Counts, MAX_WORDS};
+use answers::{Counts, Lent, MAX_WORDS, Refusal};
+use testvectors::VectorList;
 
 // The most vector words that are taken, the most bytes after a card that can decide, and the most bytes in all; specs/Report.antt has the same.
 const MAX_VECTOR_WORDS: usize = 16384;
@@ -23,16 +24,16 @@ const MAX_VECTOR_BYTES: usize = 4 * (MAX_VECTOR_WORDS + 1);
 pub const MAX_INPUT: usize = 4 + 4 * MAX_WORDS + MAX_VECTOR_BYTES;
 
 // The text for an accepted card and a list of vectors.
-fn report_accepted(card: &[u32], c: Counts, words: &[u32], bytes: &[u8], out: &mut [u8]) -> usize
-    requires { CardWithList card.now c (list_words words.now bytes.now) × (max_text ≤ length out.old) }
-    ensures { Puts out.old 0 (grading_text c (mark card.now c (list_words words.now bytes.now))
-        (tally card.now c (list_words words.now bytes.now)) (marked card.now c (list_words words.now bytes.now))
+fn report_accepted(card: &[u32], c: Counts, list: VectorList<'_>, out: &mut [u8]) -> usize
+    requires { CardWithList card.now c (list_words list) × (max_text ≤ length out.old) }
+    ensures { Puts out.old 0 (grading_text c (mark card.now c (list_words list.entry))
+        (tally card.now c (list_words list.entry)) (marked card.now c (list_words list.entry))
         (total card.now c)) result out.new }
 {
     let mut marks = layout::fault_table();
     let mut tallies = layout::fault_table();
     let tables = cardtables::make_tables(card, c);
-    let marked = grade::grade_list(card, c, &tables, words, bytes, &mut marks, &mut tallies);
+    let marked = grade::grade_list(card, c, &tables, list, &mut marks, &mut tallies);
     let total = cardtables::total(c, &tables);
     textlines::put_grading(out, c, &marks, &tallies, marked, total)
 }
@@ -42,14 +43,10 @@ fn report_words(card: &[u32], vectors: &[u8], out: &mut [u8]) -> usize
     requires { (length vectors.now % 4 ≡ 0) × (max_text ≤ length out.old) }
     ensures { Puts out.old 0 (graded_text card.now (words_of vectors.now)) result out.new }
 {
-    let none = &card[..0];
-    match opening::open_list(card, 0, none, vectors) {
-        Answer::Refused(rule, position) => textlines::put_refused(
-            out,
-            answers::rule_number(rule),
-            position,
-        ),
-        Answer::Accepted(c) => report_accepted(card, c, none, vectors, out),
+    let list = VectorList::Bytes(vectors);
+    match opening::open_list(Lent::whole(card), list) {
+        Err(Refusal(rule, position)) => textlines::put_refused(out, u32::from(rule), position),
+        Ok(c) => report_accepted(card, c, list, out),
     }
 }
 

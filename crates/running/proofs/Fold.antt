@@ -81,9 +81,6 @@ module _ {t : ℕ} where
       s.number ∙ rw s.tallies (found-put (in_grade_by ks) us n p d m (eqb (get_or ks p 0) 1) own h l e)
 
   -- and the words of its two faults
-  pub folded-none : {cs xs us : List ℕ} → Folded t 0 cs xs us xs us
-  folded-none = record { mark = λ p d h l. absurd (omega arith); tally = λ p d h l. absurd (omega arith); rest = λ f h. (refl, refl) }
-
   module _ {cs xs us ys vs zs ws : List ℕ} {p d m r : ℕ} {c : Bool} (s : Folded t p cs xs us ys vs) (e : d ≡ get_or cs p 0) (l : 2 * p + 1 < length ys)
       (k : 2 * p + 1 < length vs) (w : Put t p d c ys vs m zs ws r) where
     abbrev f : ℕ

@@ -53,10 +53,8 @@ fn take_sites(
         × Folded t n caught.now marks.old tallies.old marks.new tallies.new }
 {
     let mut m = marked;
-    let mut p = 0;
-    while p < n {
+    for p in 0..n {
         m = take_site(t, p, lists::get(caught, p), graded, m, marks, tallies);
-        p += 1;
     }
     m
 }

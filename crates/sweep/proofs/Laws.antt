@@ -31,11 +31,7 @@ follow-high node e h =
     let z : e ≡ suc (suc (e - 2)) = omega arith in
     sym (ap (follow node) z)
 
--- before the first graph there is nothing to say
-pub none-swept : {ws : List ℕ} {c : Counts} {x xs : List ℕ} → c.nodes + c.graphs ≤ length xs → Swept ws c x 0 xs
-none-swept l = record { long = l; nodes = λ g k h i. absurd (omega arith); graphs = λ g h. absurd (omega arith) }
-
--- and past the last node of a graph neither
+-- past the last node of a graph there is nothing to say
 pub none-later : {ws : List ℕ} {c : Counts} {x xs : List ℕ} {g n : ℕ} → Swept ws c x g xs → n ≡ size ws g → Partly ws c x g n xs
 none-later s e = record { done = s; later = λ i h l. absurd (omega arith) }
 

@@ -41,9 +41,7 @@ fn sweep_nodes(card: &[u32], c: Counts, from: usize, g: usize, n: usize, values:
     requires { Shape card.now c × (from ≡ first card.now g) × (g < c.graphs) × (n ≡ size card.now g) × (c.nodes + c.graphs ≤ length values.old) }
     ensures { (x : List ℕ) → Swept card.now c x g values.old → Partly card.now c x g 0 values.new }
 {
-    let mut k = n;
-    while 0 < k {
-        k -= 1;
+    for k in (0..n).rev() {
         sweep_node(card, c, from, g, k, values);
     }
 }
@@ -77,9 +75,7 @@ pub fn sweep(card: &[u32], c: Counts, tables: &[u32], vector: &[u32], values: &m
     requires { Ready card.now c tables.now × Wide c.inputs vector.now × (c.nodes + c.graphs ≤ length values.old) }
     ensures { Swept card.now c vector.now c.graphs values.new }
 {
-    let mut g = 0;
-    while g < c.graphs {
+    for g in 0..c.graphs {
         sweep_graph(card, c, tables, vector, g, values);
-        g += 1;
     }
 }

@@ -8,13 +8,14 @@ use lib.ListN.{length, take}
 use lib.Seq.{length-take-le, take_all}
 use borrow.Author.Tests.{ne_eqb}
 use Rattle.answers.specs.declared.Rule.TheVariants.{VectorForm}
-use Rattle.answers.specs.declared.Verdict.TheVariants.{Sound, Broken}
+use Rattle.std.specs.Prelude.{Ok, Err}
+use Rattle.answers.specs.Answers.{refused}
 use Rattle.testvectors.specs.Vectors.{width, vector_verdict}
 use Rattle.testvectors.proofs.Laws.{vector-long}
 use Rattle.testvectors.proofs.Parts.{width_few}
 
 module _ (m : ℕ) (l : m ≤ 1024) where
-  long-vector : (x : List ℕ) → 64 < length x → vector_verdict m x ≡ Broken VectorForm 0
+  long-vector : (x : List ℕ) → 64 < length x → vector_verdict m x ≡ Err (refused VectorForm 0)
   unfolding vector_verdict
   long-vector x h =
       let d : length x ≡ width m → ⊥ = λ e. omega (arith, width_few m l) in
@@ -27,5 +28,5 @@ module _ (m : ℕ) (l : m ≤ 1024) where
   ]
 
   -- and are the words of a vector of the form
-  pub sound-clip : (x : List ℕ) → vector_verdict m x ≡ Sound → take 65 x ≡ x
+  pub sound-clip : (x : List ℕ) → vector_verdict m x ≡ Ok tt → take 65 x ≡ x
   sound-clip x e = take_all 65 x (omega (arith, vector-long m x e, width_few m l))

@@ -11,8 +11,8 @@ use lib.Dec.{eqb}
 use borrow.Author.Tests.{ltb-false, eqb-true, not-false}
 use Rattle.answers.specs.Tests.{test, first_broken}
 use Rattle.answers.specs.declared.Rule.TheVariants.{VectorForm}
-use Rattle.answers.specs.declared.Rule.{Rule}
-use Rattle.answers.specs.declared.Verdict.TheVariants.{Sound, Broken}
+use Rattle.std.specs.Prelude.{Ok, Err}
+use Rattle.answers.specs.declared.Refusal.{Refusal}
 use Rattle.answers.proofs.Tests.{then-sound, all-passed}
 use Rattle.testvectors.specs.Vectors.{width, bit, words_verdict, vector_verdict, list_tests, list_verdict, vectors, vector}
 use Rattle.testvectors.specs.Parts.{Wide}
@@ -38,14 +38,14 @@ unfolding width
 wide m x h = record { bits = λ i l. record { inside = omega arith } }
 
 -- a sound vector has exactly its words, a sound list whole vectors and not too many
-pub vector-long : (m : ℕ) (x : List ℕ) → vector_verdict m x ≡ Sound → length x ≡ width m
+pub vector-long : (m : ℕ) (x : List ℕ) → vector_verdict m x ≡ Ok tt → length x ≡ width m
 unfolding vector_verdict
 vector-long m x e =
     let long = test (not (eqb (length x) (width m))) VectorForm 0 ∷ [] in
     let (a, b) = then-sound (first_broken long) (words_verdict m x (length x) 0) e in
     eqb-true (length x) (width m) (not-false _ (all-passed long a).0)
 
-pub list-long : (m : ℕ) (xs : List ℕ) → 0 < m → list_verdict m xs ≡ Sound → (length xs ≡ vectors m xs * width m) × (vectors m xs ≤ 65535)
+pub list-long : (m : ℕ) (xs : List ℕ) → 0 < m → list_verdict m xs ≡ Ok tt → (length xs ≡ vectors m xs * width m) × (vectors m xs ≤ 65535)
 unfolding list_verdict vectors
 list-long m xs h e =
     let (a, b) = then-sound (first_broken (list_tests m (length xs))) (words_verdict m xs (length xs) 0) e in
@@ -54,11 +54,11 @@ list-long m xs h e =
 
 -- a list whose number of words is wrong, and one of whole vectors, by each word
 module _ (m : ℕ) (xs : List ℕ) where
-  pub list-stops : {r : Rule} {p : ℕ} → first_broken (list_tests m (length xs)) ≡ Broken r p → Broken r p ≡ list_verdict m xs
+  pub list-stops : {r : Refusal} → first_broken (list_tests m (length xs)) ≡ Err r → Err r ≡ list_verdict m xs
   unfolding list_verdict
   list-stops e = rw e
 
-  pub list-goes : first_broken (list_tests m (length xs)) ≡ Sound → words_verdict m xs (length xs) 0 ≡ list_verdict m xs
+  pub list-goes : first_broken (list_tests m (length xs)) ≡ Ok tt → words_verdict m xs (length xs) 0 ≡ list_verdict m xs
   unfolding list_verdict
   list-goes e = rw e
 

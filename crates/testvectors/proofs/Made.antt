@@ -8,7 +8,7 @@ use lib.ListN.{length, get_or}
 use lib.Pow.{pow_pos, pow-add, pow_mono}
 use Rattle.lists.proofs.Tables.{length-tab, tab-at}
 use Rattle.lists.proofs.Tests.{agree}
-use Rattle.answers.specs.declared.Verdict.TheVariants.{Sound}
+use Rattle.std.specs.Prelude.{Ok}
 use Rattle.testvectors.specs.Vectors.{width, bit, carried, word_verdict, words_verdict, vector_verdict}
 use Rattle.testvectors.specs.Made.{bits_from, vector_of}
 
@@ -81,7 +81,7 @@ module _ (m : ℕ) (f : ℕ → ℕ) (bits : (i : ℕ) → i < m → f i < 2) wh
       ∙ bits_at (carried m j) (16 * j) (i % 16) (carried-inside m j a) b ∙ ap f z)
 
   -- THE FORM
-  word_sound : (j p : ℕ) → j < width m → word_verdict m j p (0xA0000000 + own j) ≡ Sound
+  word_sound : (j p : ℕ) → j < width m → word_verdict m j p (0xA0000000 + own j) ≡ Ok tt
   unfolding word_verdict
   word_sound j p h =
       let (a, b) = own_below j h in
@@ -89,13 +89,13 @@ module _ (m : ℕ) (f : ℕ → ℕ) (bits : (i : ℕ) → i < m → f i < 2) wh
       let s : (0xA0000000 + own j) % 2 ^ 29 ≡ own j = omega arith in
       rw (agree _ _ k, s, agree _ _ (div-eq_of_lt a))
 
-  words-sound : (left p : ℕ) → p + left ≤ width m → words_verdict m (vector_of m f) left p ≡ Sound
+  words-sound : (left p : ℕ) → p + left ≤ width m → words_verdict m (vector_of m f) left p ≡ Ok tt
   unfolding words_verdict
   words-sound zero p h = refl
   words-sound (suc left) p h =
       let l : p < width m = omega arith in
       rw (mod-eq_of_lt l, made_word p l, word_sound p p l) (words-sound left (suc p) (omega arith))
 
-  pub made-sound : vector_verdict m (vector_of m f) ≡ Sound
+  pub made-sound : vector_verdict m (vector_of m f) ≡ Ok tt
   unfolding vector_verdict
   made-sound = rw (made-long, agree (width m) (width m) refl) (words-sound (width m) 0 (omega arith))

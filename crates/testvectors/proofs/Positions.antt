@@ -9,7 +9,7 @@ use lib.Dec.{ltb, eqb}
 use borrow.Author.Tests.{ltb-false, eqb-true, not-false}
 use Rattle.word32.specs.Fields.{kind, input_spare}
 use Rattle.answers.specs.declared.Rule.TheVariants.{VectorForm}
-use Rattle.answers.specs.declared.Verdict.{Verdict}
+use Rattle.answers.specs.Answers.{Verdict}
 use Rattle.answers.specs.Tests.{test, first_broken}
 use Rattle.answers.specs.Calls.{Lent}
 use Rattle.answers.proofs.Tests.{all-passed}

@@ -5,13 +5,13 @@ use mathlib.Core.List.{List}
 use native.Mathlib.Omega.{arith}
 use native.Mathlib.Numerals.{add-one}
 use lib.ListN.{get_or}
-use Rattle.answers.specs.declared.Rule.{Rule}
-use Rattle.answers.specs.declared.Verdict.TheVariants.{Sound, Broken}
+use Rattle.std.specs.Prelude.{Ok, Err}
+use Rattle.answers.specs.declared.Refusal.{Refusal}
 use Rattle.testvectors.specs.Vectors.{width, word_verdict, words_verdict}
 
 -- the words from p on, of n
 module _ (m : ℕ) (xs : List ℕ) (n p : ℕ) where
-  pub words-end : n ≤ p → words_verdict m xs (n - p) p ≡ Sound
+  pub words-end : n ≤ p → words_verdict m xs (n - p) p ≡ Ok tt
   unfolding words_verdict
   words-end h = let e : n - p ≡ 0 = omega arith in rw e
 
@@ -19,10 +19,10 @@ module _ (m : ℕ) (xs : List ℕ) (n p : ℕ) where
     left : n - p ≡ suc (n - (p + 1))
     left = omega arith
 
-    pub words-go : word_verdict m (p % width m) p (get_or xs p 0) ≡ Sound → words_verdict m xs (n - p) p ≡ words_verdict m xs (n - (p + 1)) (p + 1)
+    pub words-go : word_verdict m (p % width m) p (get_or xs p 0) ≡ Ok tt → words_verdict m xs (n - p) p ≡ words_verdict m xs (n - (p + 1)) (p + 1)
     unfolding words_verdict
     words-go e = rw (left, e, add-one p)
 
-    pub words-stop : (r : Rule) (q : ℕ) → word_verdict m (p % width m) p (get_or xs p 0) ≡ Broken r q → words_verdict m xs (n - p) p ≡ Broken r q
+    pub words-stop : (r : Refusal) → word_verdict m (p % width m) p (get_or xs p 0) ≡ Err r → words_verdict m xs (n - p) p ≡ Err r
     unfolding words_verdict
-    words-stop r q e = rw (left, e)
+    words-stop r e = rw (left, e)

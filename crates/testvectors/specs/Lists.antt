@@ -1,12 +1,15 @@
 -- A list of vectors that is lent by words or in bytes, and read in place. No contract of a call cites these. Assumes nothing.
-use Rattle.std.specs.Prelude.{ℕ, ◌%◌, List, [], ◌∷◌, length}
+use Rattle.std.specs.Prelude.{◌%◌, List, ℕ, length}
 use Rattle.word32.specs.Bytes.{words_of}
-use Rattle.answers.specs.Calls.{Lent, lent}
+use Rattle.answers.specs.Calls.{Lent, lent, whole}
+use Rattle.testvectors.specs.declared.VectorList.{VectorList}
+use Rattle.testvectors.specs.declared.VectorList.TheVariants.{Words, Bytes}
 
--- its words: those that its bytes hold, or where it has no bytes, those that it is
-unfoldable pub list_words : List ℕ → List ℕ → List ℕ
-list_words ws [] = ws
-list_words ws (b ∷ bs) = words_of (b ∷ bs)
+-- what is lent: the words, or those that the bytes hold, with the bytes that are left over
+abbrev pub lent_list : VectorList → Lent
+lent_list (Words ws) = whole ws.now
+lent_list (Bytes bs) = lent (words_of bs.now) (length bs.now % 4)
 
-abbrev pub lent_list : List ℕ → List ℕ → Lent
-lent_list ws bs = lent (list_words ws bs) (length bs % 4)
+-- its words
+abbrev pub list_words : VectorList → List ℕ
+list_words l = (lent_list l).words

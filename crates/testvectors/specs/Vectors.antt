@@ -1,15 +1,14 @@
 -- The form of vectors and of lists of them: document 01, 'The card's words', and refusal 10. Assumes nothing.
 -- `width`, `bit` and `carried` say how inputs stand in words; no engine opens them.
 use Prim.Native.Nat.{ℕ, zero, suc, ◌+◌, ◌-◌, ◌*◌, ◌/◌, ◌%◌, ◌^◌, min}
-use Rattle.std.specs.Prelude.{List, [], ◌∷◌, not, get_or, drop, ltb, eqb}
+use Rattle.std.specs.Prelude.{List, [], ◌∷◌, not, get_or, drop, ltb, eqb, Ok}
 use Rattle.std.proofs.Math.ListN.{length, take}
 use Rattle.word32.specs.Fields.{kind, input_spare}
 use Rattle.answers.specs.Limits.{max_vectors}
 use Rattle.answers.specs.Tests.{Test, test, first_broken, and_then}
 use Rattle.answers.specs.Calls.{Lent}
 use Rattle.answers.specs.declared.Rule.TheVariants.{VectorForm}
-use Rattle.answers.specs.declared.Verdict.{Verdict}
-use Rattle.answers.specs.declared.Verdict.TheVariants.{Sound}
+use Rattle.answers.specs.Answers.{Verdict}
 
 -- the words of a vector for m inputs: m / 16 rounded up
 unfoldable pub width : ℕ → ℕ
@@ -43,7 +42,7 @@ module _ (m : ℕ) (xs : List ℕ) where
   -- the words from p on, `left` in all
   unfoldable pub words_verdict : ℕ → ℕ → Verdict
   unfolding width word_verdict
-  words_verdict zero p = Sound
+  words_verdict zero p = Ok tt
   words_verdict (suc left) p = and_then (word_verdict m (p % width m) p (get_or xs p 0)) (words_verdict left (suc p))
 
   -- exactly one vector

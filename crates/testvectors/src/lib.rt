@@ -6,12 +6,12 @@ ghost use Rattle.std.specs.Prelude.{◌≡◌, ◌+◌, ◌*◌, ◌<◌, ◌≤
 ghost use Rattle.lists.specs.Tables.{over};
 ghost use Rattle.answers.specs.Limits.{max_graphs};
 ghost use Rattle.answers.specs.Tests.{first_broken};
-ghost use Rattle.answers.specs.Calls.{lent};
+ghost use Rattle.answers.specs.Calls.{lends};
 ghost use Rattle.testvectors.specs.Vectors.{width, bit, carried, word_verdict, words_verdict, vector_verdict, list_tests, list_verdict, vectors, vector, lent_form};
 ghost use Rattle.testvectors.specs.Lists.{list_words, lent_list};
 ghost use Rattle.testvectors.specs.Parts.{HasBit};
 
-use answers::{MAX_VECTORS, Rule, Verdict};
+use answers::{Lent, MAX_VECTORS, Refusal, Rule};
 
 // The words of a vector for m inputs.
 pub fn width(m: usize) -> usize
@@ -43,118 +43,123 @@ fn carried(m: usize, j: usize) -> u32
 }
 
 // A word at p, which is word j of its vector.
-fn check_word(m: usize, j: usize, p: usize, w: u32) -> Verdict
+fn check_word(m: usize, j: usize, p: usize, w: u32) -> Result<(), Refusal>
     requires { (m ≤ max_graphs) × (16 * j < m) }
     ensures { result ≡ word_verdict m j p w }
 {
     let kind = word32::kind(w);
     let spare = word32::input_spare(w) >> carried(m, j);
     if kind != 5 {
-        return Verdict::Broken(Rule::VectorForm, p);
+        return Err(Refusal(Rule::VectorForm, p));
     }
     if spare != 0 {
-        return Verdict::Broken(Rule::VectorForm, p);
+        return Err(Refusal(Rule::VectorForm, p));
     }
-    Verdict::Sound
+    Ok(())
 }
 
-// How many words a list has.
-pub fn list_length(words: &[u32], bytes: &[u8]) -> usize
-    ensures { result ≡ length (list_words words.now bytes.now) }
-{
-    if 0 < bytes.len() {
-        return bytes.len() / 4;
-    }
-    words.len()
+// A list of vectors as it is lent, which is read in place: its words, or the bytes that hold them, highest byte first.
+#[derive(Clone, Copy)]
+pub enum VectorList<'a> {
+    Words(&'a [u32]),
+    Bytes(&'a [u8]),
 }
 
-// Word p of a list.
-fn list_word(words: &[u32], bytes: &[u8], p: usize) -> u32
-    requires { p < length (list_words words.now bytes.now) }
-    ensures { result ≡ get_or (list_words words.now bytes.now) p 0 }
-{
-    if 0 < bytes.len() {
-        return word32::word_at(bytes, p);
+impl<'a> VectorList<'a> {
+    // How many words it has.
+    pub fn length(self) -> usize
+        ensures { result ≡ length (list_words self.entry) }
+    {
+        match self {
+            VectorList::Words(words) => words.len(),
+            VectorList::Bytes(bytes) => bytes.len() / 4,
+        }
     }
-    lists::get(words, p)
-}
 
-// The n words of a list from `start` on go to the front of a buffer.
-pub fn list_part(words: &[u32], bytes: &[u8], start: usize, n: usize, out: &mut [u32])
-    requires { (start + n ≤ length (list_words words.now bytes.now)) × (start + n < 4294967296) × (n ≤ length out.old) }
-    ensures { out.new ≡ over n (λ i. get_or (list_words words.now bytes.now) (start + i) 0) out.old }
-{
-    let mut i = 0;
-    while i < n {
-        out[i] = list_word(words, bytes, start + i);
-        i += 1;
+    // How many bytes follow them that make no word.
+    fn extra(self) -> usize
+        ensures { result ≡ (lent_list self.entry).extra }
+    {
+        match self {
+            VectorList::Words(_) => 0,
+            VectorList::Bytes(bytes) => bytes.len() % 4,
+        }
+    }
+
+    // Its word p.
+    fn word(self, p: usize) -> u32
+        requires { p < length (list_words self) }
+        ensures { result ≡ get_or (list_words self.entry) p 0 }
+    {
+        match self {
+            VectorList::Words(words) => words[p],
+            VectorList::Bytes(bytes) => word32::word_at(bytes, p),
+        }
+    }
+
+    // Its n words from `start` on go to the front of a buffer.
+    pub fn part(self, start: usize, n: usize, out: &mut [u32])
+        requires { (start + n ≤ length (list_words self)) × (start + n < 4294967296) × (n ≤ length out.old) }
+        ensures { out.new ≡ over n (λ i. get_or (list_words self.entry) (start + i) 0) out.old }
+    {
+        for i in 0..n {
+            out[i] = self.word(start + i);
+        }
     }
 }
 
 // All words of a list, of which each width of them are a vector.
-fn check_words(m: usize, words: &[u32], bytes: &[u8]) -> Verdict
+fn check_words(m: usize, list: VectorList<'_>) -> Result<(), Refusal>
     requires { (0 < m) × (m ≤ max_graphs) }
-    ensures { result ≡ words_verdict m (list_words words.now bytes.now) (length (list_words words.now bytes.now)) 0 }
+    ensures { result ≡ words_verdict m (list_words list.entry) (length (list_words list.entry)) 0 }
 {
     let w = width(m);
-    let n = list_length(words, bytes);
-    let mut p = 0;
-    while p < n {
-        if let Verdict::Broken(rule, position) = check_word(
-            m,
-            p % w,
-            p,
-            list_word(words, bytes, p),
-        ) {
-            return Verdict::Broken(rule, position);
-        }
-        p += 1;
+    let n = list.length();
+    for p in 0..n {
+        check_word(m, p % w, p, list.word(p))?;
     }
-    Verdict::Sound
+    Ok(())
 }
 
 // One vector for m inputs, whose words are followed by so many bytes that make no word.
-pub fn check_vector(m: usize, vector: &[u32], extra: usize) -> Verdict
+pub fn check_vector(m: usize, vector: Lent<'_>) -> Result<(), Refusal>
     requires { (0 < m) × (m ≤ max_graphs) }
-    ensures { result ≡ lent_form vector_verdict m (lent vector.now extra) }
+    ensures { result ≡ lent_form vector_verdict m (lends vector.entry) }
 {
-    if 0 < extra {
-        return Verdict::Broken(Rule::VectorForm, 0);
+    if 0 < vector.extra {
+        return Err(Refusal(Rule::VectorForm, 0));
     }
-    if vector.len() != width(m) {
-        return Verdict::Broken(Rule::VectorForm, 0);
+    if vector.words.len() != width(m) {
+        return Err(Refusal(Rule::VectorForm, 0));
     }
-    let none = [0u8; 1];
-    check_words(m, vector, &none[..0])
+    check_words(m, VectorList::Words(vector.words))
 }
 
 // How many words a list of vectors for m inputs may have: whole vectors, and not too many.
-fn test_list(m: usize, n: usize) -> Verdict
+fn test_list(m: usize, n: usize) -> Result<(), Refusal>
     requires { (0 < m) × (m ≤ max_graphs) }
     ensures { result ≡ first_broken (list_tests m n) }
 {
     let w = width(m);
     if n % w != 0 {
-        return Verdict::Broken(Rule::VectorForm, 0);
+        return Err(Refusal(Rule::VectorForm, 0));
     }
     if MAX_VECTORS < n / w {
-        return Verdict::Broken(Rule::VectorForm, 0);
+        return Err(Refusal(Rule::VectorForm, 0));
     }
-    Verdict::Sound
+    Ok(())
 }
 
 // A list of vectors for m inputs.
-pub fn check_list(m: usize, words: &[u32], bytes: &[u8]) -> Verdict
+pub fn check_list(m: usize, list: VectorList<'_>) -> Result<(), Refusal>
     requires { (0 < m) × (m ≤ max_graphs) }
-    ensures { result ≡ lent_form list_verdict m (lent_list words.now bytes.now) }
+    ensures { result ≡ lent_form list_verdict m (lent_list list.entry) }
 {
-    if 0 < bytes.len() % 4 {
-        return Verdict::Broken(Rule::VectorForm, 0);
+    if 0 < list.extra() {
+        return Err(Refusal(Rule::VectorForm, 0));
     }
-    if let Verdict::Broken(rule, position) = test_list(m, list_length(words, bytes)) {
-        return Verdict::Broken(rule, position);
-    }
-    check_words(m, words, bytes)
+    test_list(m, list.length())?;
+    check_words(m, list)
 }
 
 // How many vectors a list has.

@@ -1,11 +1,8 @@
--- The decimal digits of a number. Assumes nothing.
-use Prim.Native.Nat.{ℕ, zero, suc, ◌+◌, ◌/◌, ◌%◌, ◌^◌, ◌<◌, ◌≤◌}
-use mathlib.Core.Path.{◌≡◌, ap, ◌∙◌}
-use mathlib.Core.List.{List, [], ◌∷◌, ◌++◌}
-use native.Mathlib.Omega.{arith}
-use native.Mathlib.Nat.{pow-suc}
+-- The decimal digits of a number, which the library prints. Assumes nothing.
+use Rattle.std.proofs.Common.{◌≡◌, ℕ, zero, suc, ◌+◌, ◌/◌, ◌%◌, ◌^◌, ◌<◌, ◌≤◌, List, [], ◌∷◌, ◌++◌, length, length-append, sym, ap, ◌∙◌, arith}
+use Rattle.std.specs.Fmt.{decimal as printed_digits}
+use Rattle.std.proofs.lemmas.Fmt.{decimal_by_steps, length-decimal-le}
 use native.Mathlib.Decide.{dec_lt}
-use lib.ListN.{length, length-append}
 use borrow.Author.Tests.{lt-ltb, le-ltb}
 use Rattle.textlines.specs.Text.{digits, decimal}
 
@@ -36,23 +33,16 @@ length_last n h = rw (decimal-last n h)
 pub length_more : (n : ℕ) → 10 ≤ n → length (decimal n) ≡ length (decimal (n / 10)) + 1
 length_more n h = ap length (decimal-more n h) ∙ length-append (decimal (n / 10)) ((48 + n % 10) ∷ [])
 
--- a number below 10 ^ k has at most k digits
-decimal-few : (k n : ℕ) → n < 10 ^ suc k → length (decimal n) ≤ suc k
-decimal-few zero n h = rw (decimal-last n h) (omega arith)
-decimal-few (suc k) n h = elim (dec_lt n 10) [
-  | yes l ↦ rw (decimal-last n l) (omega arith)
-  | no m ↦
-      let l : 10 ≤ n = omega arith in
-      let b : n / 10 < 10 ^ suc k = omega (arith, pow-suc 10 (suc k)) in
-      omega (arith, length_more n l, decimal-few k (n / 10) b)
-]
+-- they are what the library prints
+pub printed : (n : ℕ) → n < 2 ^ 64 → printed_digits n ≡ decimal n
+printed = decimal_by_steps (λ n ds. ds ≡ decimal n) (λ n l. sym (decimal-last n l)) (λ n ds l e. rw e (sym (decimal-more n l)))
 
 -- the sizes at hand: a fault's number, a 32-bit word, a 64-bit number
 pub few-5 : (n : ℕ) → n < 100000 → length (decimal n) ≤ 5
-few-5 n h = decimal-few 4 n h
+few-5 n h = rw (← printed n (omega arith)) (length-decimal-le 5 n (omega arith) h (omega arith))
 
 pub few-10 : (n : ℕ) → n < 4294967296 → length (decimal n) ≤ 10
-few-10 n h = decimal-few 9 n (omega arith)
+few-10 n h = rw (← printed n (omega arith)) (length-decimal-le 10 n (omega arith) (omega arith) (omega arith))
 
 pub few-20 : (n : ℕ) → n < 18446744073709551616 → length (decimal n) ≤ 20
-few-20 n h = decimal-few 19 n (omega arith)
+few-20 n h = rw (← printed n h) (length-decimal-le 20 n (omega arith) (omega arith) h)

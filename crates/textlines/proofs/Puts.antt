@@ -4,9 +4,10 @@ use mathlib.Core.Path.{◌≡◌, refl, sym, ap, ◌∙◌}
 use mathlib.Core.List.{List, [], ◌∷◌, ◌++◌}
 use native.Mathlib.Omega.{arith}
 use native.Mathlib.Nat.{add-zero}
-use native.Mathlib.Numerals.{add-one}
-use lib.ListN.{length, get_or, set, take, drop, length-append, length-set}
-use lib.Seq.{sets-eq, take-suc, take-length}
+use lib.ListN.{length, set, take, drop, length-append, length-set}
+use lib.Seq.{sets, sets-eq, length-sets, drop-drop}
+use Rattle.std.proofs.Common.{append_assoc}
+use borrow.Rule.Slice.PartMut.{put_mid}
 use Rattle.lists.specs.Tables.{front}
 use Rattle.textlines.specs.Puts.{placed, Puts}
 
@@ -36,15 +37,13 @@ puts_then {d} {e} {f} {xs} {ys} {at} {m} {n} p q =
       bytes = q.bytes ∙ rw (p.ends, p.bytes) (placed-more at xs ys d);
     }
 
--- a turn of the loop that copies bytes, and its end
-pub puts-next : {d e : List ℕ} {at i : ℕ} (xs : List ℕ) (v : ℕ) → Puts d at (take i xs) (at + i) e → i < length xs → at + i < length e → v ≡ get_or xs i 0
-    → Puts d at (take (i + 1) xs) (at + (i + 1)) (set e (at + i) v)
-puts-next {d} {e} {at} {i} xs v p h l z =
-    let s : at + (i + 1) ≡ at + i + 1 = omega arith in
-    rw (s, add-one i, take-suc xs i 0 h, ← z) (puts_then p (puts_one e (at + i) v l))
-
-pub puts-all : {d e : List ℕ} {at i : ℕ} (xs : List ℕ) → Puts d at (take i xs) (at + i) e → i ≡ length xs → Puts d at xs (at + length xs) e
-puts-all {d} {e} {at} xs p h = rw take-length at (rw h at p)
+-- a text copied into a part of a buffer
+pub puts_part : {xs ys : List ℕ} (d : List ℕ) (at k : ℕ) → at + length xs ≤ length d → k ≡ length xs → ys ≡ xs → Puts d at xs (at + length xs) (put_mid at k d ys)
+unfolding placed
+puts_part {xs} {ys} d at k h l e =
+    let part : put_mid at k d ys ≡ take at d ++ (xs ++ drop (at + length xs) d) = rw (e, l) (ap (λ r. take at d ++ (xs ++ r)) (drop-drop (length xs) at d)) in
+    let same : put_mid at k d ys ≡ sets d at xs = part ∙ sym (append_assoc (take at d) xs (drop (at + length xs) d)) ∙ sym (sets-eq xs d at h) in
+    record { ends = refl; inside = h; size = ap length same ∙ length-sets d at xs; bytes = same }
 
 -- a text at the start stands in the buffer's front
 pub puts-front : {d e xs : List ℕ} {n : ℕ} → Puts d 0 xs n e → (n ≡ length xs) × (e ≡ front xs d) × (n ≤ length e)

@@ -7,6 +7,7 @@ ghost use Rattle.textlines.specs.Text.{max_text, decimal, field, mark_field, cou
 ghost use Rattle.textlines.specs.Puts.{Puts};
 
 use answers::{Counts, MAX_FAULTS};
+use itoa::Buffer;
 
 // The length of the longest text; specs/Text.antt has the same.
 pub const MAX_TEXT: usize = 28 * MAX_FAULTS + 160;
@@ -16,21 +17,9 @@ pub fn put(out: &mut [u8], at: usize, bytes: &[u8]) -> usize
     requires { at + length bytes.now ≤ length out.old }
     ensures { Puts out.old at bytes.now result out.new }
 {
-    let mut i = 0;
-    while i < bytes.len() {
-        out[at + i] = bytes[i];
-        i += 1;
-    }
-    at + bytes.len()
-}
-
-// One digit.
-fn put_digit(out: &mut [u8], at: usize, digit: usize) -> usize
-    requires { (at < length out.old) × (digit < 10) }
-    ensures { Puts out.old at ((48 + digit) ∷ []) result out.new }
-{
-    out[at] = 48 + digit as u8;
-    at + 1
+    let end = at + bytes.len();
+    out[at..end].copy_from_slice(bytes);
+    end
 }
 
 // The digits of a number, the highest first.
@@ -38,11 +27,7 @@ fn put_decimal(out: &mut [u8], at: usize, n: usize) -> usize
     requires { at + length (decimal n) ≤ length out.old }
     ensures { Puts out.old at (decimal n) result out.new }
 {
-    if n < 10 {
-        return put_digit(out, at, n);
-    }
-    let next = put_decimal(out, at, n / 10);
-    put_digit(out, next, n % 10)
+    put(out, at, Buffer::new().format(n).as_bytes())
 }
 
 // A space and a number.
@@ -58,10 +43,7 @@ fn put_field(out: &mut [u8], at: usize, n: usize) -> usize
 fn first_vector(mark: u32) -> usize
     ensures { (result ≡ mark - 0xE0000000) × (result < 4294967296) }
 {
-    if mark < 0xE000_0000 {
-        return 0;
-    }
-    (mark - 0xE000_0000) as usize
+    mark.saturating_sub(0xE000_0000) as usize
 }
 
 // A space and the first vector, or `-`.
@@ -93,10 +75,8 @@ fn put_faults(out: &mut [u8], at: usize, n: usize, marks: &[u32], tallies: &[u32
         × (result ≤ at + 28 * n) }
 {
     let mut next = at;
-    let mut f = 0;
-    while f < n {
+    for f in 0..n {
         next = put_fault(out, next, f, lists::get(marks, f), lists::get(tallies, f));
-        f += 1;
     }
     next
 }

@@ -1,13 +1,13 @@
 -- Settings: that no fault and faults give bits, and what faults make of a site. No card in it. Assumes nothing.
-use Prim.Native.Nat.{ℕ, suc, ◌+◌, ◌/◌, ◌%◌, ◌<◌, ◌≤◌}
+use Prim.Native.Nat.{ℕ, ◌/◌, ◌%◌}
 use mathlib.Core.Path.{◌≡◌, refl, ap, ◌∙◌}
 use mathlib.Core.List.{List, [], ◌∷◌, ◌++◌}
+use mathlib.Core.Bool.{Bool, true, false, cond}
 use native.Mathlib.Omega.{arith}
-use native.Mathlib.Numerals.{add-one}
-use lib.ListN.{length, get_or, drop, drop_of_length-le}
-use lib.Seq.{drop-cons}
 use lib.Dec.{eqb}
 use borrow.Author.Tests.{eq-eqb, ne_eqb}
+use Rattle.std.specs.Prelude.{Some, find}
+use Rattle.std.specs.Option.{option_map, unwrap_or}
 use Rattle.lists.specs.Counting.{choose}
 use Rattle.lists.proofs.Tests.{choose-bit}
 use Rattle.lists.specs.Each.{Each}
@@ -58,14 +58,13 @@ pub stuck-off : (f p v : ℕ) → (f / 2 ≡ p → ⊥) → faulty (f ∷ []) p 
 unfolding faulty
 stuck-off f = faulty-off f []
 
--- a loop over the faults of a list: those from i on
-module _ (fs : List ℕ) (p v : ℕ) where
-  pub faults-over : (i : ℕ) → length fs ≤ i → faulty (drop i fs) p v ≡ v
-  unfolding faulty
-  faults-over i h = rw (drop_of_length-le fs h)
-
-  pub faults-hit : (i : ℕ) → i < length fs → get_or fs i 0 / 2 ≡ p → faulty (drop i fs) p v ≡ get_or fs i 0 % 2
-  faults-hit i h e = rw (drop-cons fs i 0 h) (faulty-here (get_or fs i 0) (drop (suc i) fs) p v e)
-
-  pub faults-next : (i : ℕ) → i < length fs → (get_or fs i 0 / 2 ≡ p → ⊥) → faulty (drop i fs) p v ≡ faulty (drop (i + 1) fs) p v
-  faults-next i h n = rw (add-one, drop-cons fs i 0 h) (faulty-off (get_or fs i 0) (drop (suc i) fs) p v n)
+-- the first of a list's faults at a site holds it, and where there is none the site has what is worked out there
+pub faulty-find : (fs : List ℕ) (p v : ℕ) → unwrap_or (option_map (λ f. f % 2) (find (λ f. eqb (f / 2) p) fs)) v ≡ faulty fs p v
+unfolding faulty
+faulty-find [] p v = refl
+faulty-find (f ∷ fs) p v = at (eqb (f / 2) p) (faulty-find fs p v)
+  where
+    at : (b : Bool) → unwrap_or (option_map (λ f. f % 2) (find (λ f. eqb (f / 2) p) fs)) v ≡ faulty fs p v
+        → unwrap_or (option_map (λ f. f % 2) (cond b (Some f) (find (λ f. eqb (f / 2) p) fs))) v ≡ choose b (f % 2) (faulty fs p v)
+    at true e = refl
+    at false e = e

@@ -20,15 +20,10 @@ pub struct Walked {
 pub fn set_at(faults: &[u32], site: usize, v: u32) -> u32
     ensures { result ≡ faulty faults.now site v }
 {
-    let mut i = 0;
-    while i < faults.len() {
-        let f = faults[i] as usize;
-        if f / 2 == site {
-            return (f % 2) as u32;
-        }
-        i += 1;
+    match faults.iter().find(|f| **f as usize / 2 == site) {
+        Some(f) => f % 2,
+        None => v,
     }
-    v
 }
 
 // The exit that node j, of graph g, takes where its decision is d, with the faults of a list in.

@@ -11,8 +11,7 @@ use Rattle.lists.specs.Counting.{count}
 use Rattle.lists.proofs.Tests.{or-false}
 use Rattle.lists.proofs.Counting.{count-shifted, count-all, count_none, least-none}
 use Rattle.answers.specs.declared.Counts.{Counts}
-use Rattle.answers.specs.declared.Verdict.TheVariants.{Sound}
-use Rattle.answers.specs.declared.Answer.TheVariants.{Accepted}
+use Rattle.std.specs.Prelude.{Ok}
 use Rattle.answers.specs.Tests.{first_broken}
 use Rattle.answers.proofs.Tests.{all-passed}
 use Rattle.layout.specs.Layout.{first, is_input, observable}
@@ -36,7 +35,7 @@ module _ {ws js : List ℕ} {c : Counts} {number : ℕ → ℕ} {start before : 
   abbrev many : ℕ
   many = c.graphs - c.inputs
 
-  written-sound : (g : ℕ) → start ≤ g → g < start + many → graph_verdict js (up_to js g) ≡ Sound
+  written-sound : (g : ℕ) → start ≤ g → g < start + many → graph_verdict js (up_to js g) ≡ Ok tt
   written-sound g m l =
       let z : start + (g - start) ≡ g = omega arith in
       let o : Output js g = rw (numbered-on W (g - start), z) at (written-output W (c.inputs + (g - start)) (omega arith) (omega arith)) in
@@ -60,7 +59,7 @@ module _ {ws js : List ℕ} {c : Counts} {number : ℕ → ℕ} {start before : 
       let none = count_none (observable ws) c.inputs (λ g l. input-hidden ws g (accepts.shape.input g l).0) in
       omega (arith, accepts.shape.seen)
 
-module _ (a b : List ℕ) {A B : Counts} (wires : List ℕ) (ea : checked a ≡ Accepted A) (eb : checked b ≡ Accepted B) (w : Wired A B wires) where
+module _ (a b : List ℕ) {A B : Counts} (wires : List ℕ) (ea : checked a ≡ Ok A) (eb : checked b ≡ Ok B) (w : Wired A B wires) where
   abbrev js : List ℕ
   js = joined A B wires a b
 
@@ -83,7 +82,7 @@ module _ (a b : List ℕ) {A B : Counts} (wires : List ℕ) (ea : checked a ≡ 
   all-inputs : (g : ℕ) → g ≤ n → count (is_input js) g ≡ g
   all-inputs g l = count-all (is_input js) g (λ k m. (joined-input a b wires ea eb w k (omega arith)).0)
 
-  all_sound : (g : ℕ) → g < G → graph_verdict js (up_to js g) ≡ Sound
+  all_sound : (g : ℕ) → g < G → graph_verdict js (up_to js g) ≡ Ok tt
   all_sound g l = elim (dec_lt g n) [
     | yes i ↦ input-sound js g (omega (arith, w.few-graphs)) (input-header a b wires ea eb w g i) (all-inputs g (omega arith))
     | no i ↦ elim (dec_lt g (A.graphs + free A B wires)) [
@@ -108,18 +107,18 @@ module _ (a b : List ℕ) {A B : Counts} (wires : List ℕ) (ea : checked a ≡ 
   counts-are : up_to js G ≡ joined_counts A B wires
   counts-are = rw (inputs_are, nodes-are, observable-are)
 
-  pub joined-accepted : checked js ≡ Accepted (joined_counts A B wires)
+  pub joined-accepted : checked js ≡ Ok (joined_counts A B wires)
   joined-accepted =
       sound-accepted js G (omega (arith, joined-long x y wires, nodes-are)) (omega (arith, observable-are, x.some-observable)) all_sound
       w.few-graphs (omega (arith, nodes-are, w.few-nodes))
-      ∙ ap Accepted counts-are
+      ∙ ap Ok counts-are
 
 -- THE TESTS of a joining, passed
 module _ (A B : Counts) (wires : List ℕ) (n room : ℕ) where
   wire-right : (G i : ℕ) → wrong_wire G wires i ≡ false → is_free wires i ≡ false → get_or wires i 0 < G
   wire-right G i e z = leb-false G (get_or wires i 0) (rw z at e)
 
-  pub tests-wired : first_broken (join_tests A B wires n room) ≡ Sound → Wired A B wires × (n ≤ room)
+  pub tests-wired : first_broken (join_tests A B wires n room) ≡ Ok tt → Wired A B wires × (n ≤ room)
   unfolding join_tests
   tests-wired e =
       let t = all-passed (join_tests A B wires n room) e in

@@ -4,8 +4,7 @@ use mathlib.Core.Path.{◌≡◌}
 use mathlib.Core.List.{List}
 use native.Mathlib.Omega.{arith}
 use Rattle.answers.specs.declared.Counts.{Counts}
-use Rattle.answers.specs.declared.Verdict.TheVariants.{Sound}
-use Rattle.answers.specs.declared.Answer.TheVariants.{Accepted}
+use Rattle.std.specs.Prelude.{Ok}
 use Rattle.answers.specs.Tests.{first_broken}
 use Rattle.layout.specs.Shape.{Shape}
 use Rattle.form.specs.Check.{checked}
@@ -23,7 +22,7 @@ use Rattle.wiring.proofs.Whose.{joined-whose}
 use Rattle.wiring.proofs.Caught.{joined-shown, joined-catches-a, joined-catches-b}
 
 -- both cards are parts of the joined card
-joined-joins : (a b : List ℕ) {A B : Counts} (wires : List ℕ) → checked a ≡ Accepted A → checked b ≡ Accepted B → Wired A B wires → Joins a b A B wires
+joined-joins : (a b : List ℕ) {A B : Counts} (wires : List ℕ) → checked a ≡ Ok A → checked b ≡ Ok B → Wired A B wires → Joins a b A B wires
 joined-joins a b {A} {B} wires ea eb w =
     let shape : Shape (joined A B wires a b) (joined_counts A B wires) =
     (check-accepts (joined A B wires a b) 0 (joined_counts A B wires) (joined-accepted a b wires ea eb w)).shape in
@@ -34,8 +33,8 @@ joined-joins a b {A} {B} wires ea eb w =
       part-b = written-part (written-b a b wires ea eb w) shape (omega arith);
     }
 
-pub joined-both : (a b : List ℕ) {A B : Counts} (wires : List ℕ) (n room : ℕ) → checked a ≡ Accepted A → checked b ≡ Accepted B
-    → first_broken (join_tests A B wires n room) ≡ Sound → Both a b A B wires
+pub joined-both : (a b : List ℕ) {A B : Counts} (wires : List ℕ) (n room : ℕ) → checked a ≡ Ok A → checked b ≡ Ok B
+    → first_broken (join_tests A B wires n room) ≡ Ok tt → Both a b A B wires
 joined-both a b {A} {B} wires n room ea eb e =
     let w = (tests-wired A B wires n room e).0 in
     let joins = joined-joins a b wires ea eb w in

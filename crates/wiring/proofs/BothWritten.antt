@@ -6,7 +6,7 @@ use mathlib.Core.Bool.{true}
 use native.Mathlib.Omega.{arith}
 use native.Mathlib.Nat.{zero-add}
 use Rattle.answers.specs.declared.Counts.{Counts}
-use Rattle.answers.specs.declared.Answer.TheVariants.{Accepted}
+use Rattle.std.specs.Prelude.{Ok}
 use Rattle.layout.specs.Layout.{first, header, is_input, size}
 use Rattle.layout.specs.Shape.{Accepts}
 use Rattle.form.specs.Check.{checked}
@@ -17,7 +17,7 @@ use Rattle.wiring.proofs.Numbers.{output-a, output-b, lower-a, lower-b}
 use Rattle.wiring.proofs.Words.{joined-long, word-input, word-a, word-b}
 use Rattle.wiring.proofs.Written.{WrittenIn, written-ends}
 
-module _ (a b : List ℕ) {A B : Counts} (wires : List ℕ) (ea : checked a ≡ Accepted A) (eb : checked b ≡ Accepted B) (w : Wired A B wires) where
+module _ (a b : List ℕ) {A B : Counts} (wires : List ℕ) (ea : checked a ≡ Ok A) (eb : checked b ≡ Ok B) (w : Wired A B wires) where
   abbrev js : List ℕ
   js = joined A B wires a b
 

@@ -7,7 +7,7 @@ use native.Mathlib.Omega.{arith}
 use lib.ListN.{get_or}
 use Rattle.lists.specs.Counting.{choose}
 use Rattle.answers.specs.declared.Counts.{Counts}
-use Rattle.answers.specs.declared.Verdict.TheVariants.{Sound}
+use Rattle.std.specs.Prelude.{Ok}
 use Rattle.testvectors.specs.Vectors.{bit, vector_verdict}
 use Rattle.testvectors.proofs.Laws.{bit-value}
 use Rattle.testvectors.proofs.Made.{made-bit, made-sound}
@@ -39,7 +39,7 @@ module _ {a b : List ℕ} {A B : Counts} {wires : List ℕ} (joins : Joins a b A
   few = joins.part-a.own.inputs_in
 
   -- A's part of a vector, and B's, where A has a setting that gives bits: both are vectors, and these are the bits of B's
-  sound-a : (x : List ℕ) → vector_verdict A.inputs (vector_a A B wires x) ≡ Sound
+  sound-a : (x : List ℕ) → vector_verdict A.inputs (vector_a A B wires x) ≡ Ok tt
   sound-a x = made-sound A.inputs (bit x) (λ i _. bit-value x i)
 
   module _ {t : Setting} (keeps : Keeps t) (x : List ℕ) where
@@ -50,7 +50,7 @@ module _ {a b : List ℕ} {A B : Counts} {wires : List ℕ} (joins : Joins a b A
     given-bit true i h e = bit-value x (A.inputs + free_below wires i)
     given-bit false i h e = value-bit joins.part-a.own t (vector_a A B wires x) keeps (get_or wires i 0) (joins.wired.named i h e)
 
-    sound-b : vector_verdict B.inputs (vector_b A B wires x (value a A t (vector_a A B wires x))) ≡ Sound
+    sound-b : vector_verdict B.inputs (vector_b A B wires x (value a A t (vector_a A B wires x))) ≡ Ok tt
     sound-b = made-sound B.inputs (λ i. given (is_free wires i) i) (λ i h. given-bit (is_free wires i) i h refl)
 
     bit-b : (f : Bool) (h : ℕ) → h < B.inputs → is_free wires h ≡ f → bit (vector_b A B wires x (value a A t (vector_a A B wires x))) h ≡ given f h

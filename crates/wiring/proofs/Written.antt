@@ -8,8 +8,7 @@ use lib.ListN.{length}
 use lib.Dec.{eqb}
 use Rattle.word32.specs.Fields.{kind, node_count, read_graph, exit_of}
 use Rattle.answers.specs.declared.Counts.{Counts}
-use Rattle.answers.specs.declared.Verdict.TheVariants.{Sound}
-use Rattle.answers.specs.declared.Answer.TheVariants.{Accepted}
+use Rattle.std.specs.Prelude.{Ok}
 use Rattle.layout.specs.Layout.{first, header, is_input, observable, size, reads, exits, decided, decides}
 use Rattle.layout.specs.Shape.{Accepts}
 use Rattle.layout.proofs.Firsts.{first_next, first-few, header-inside}
@@ -24,7 +23,7 @@ use Rattle.wiring.proofs.Words.{moved_other, moved-decided, moved-kind, moved-sp
 -- BY WORDS: the words of the outputs of the accepted card ws, counted by c, are written in js, moved. They are graphs `start` and on there, after
 -- `before` nodes, and a graph below an output has a lower number. (`PartOf` is what follows of its graphs.)
 pub record WrittenIn (ws js : List ℕ) (c : Counts) (number : ℕ → ℕ) (start before : ℕ) : Type 0 where
-  pub accepted : checked ws ≡ Accepted c
+  pub accepted : checked ws ≡ Ok c
   pub numbered : (g : ℕ) → c.inputs ≤ g → number g ≡ start + (g - c.inputs)
   pub lower : (r g : ℕ) → c.inputs ≤ g → r < g → number r < number g
   pub few-graphs : start + (c.graphs - c.inputs) ≤ 1024
@@ -136,7 +135,7 @@ module _ {ws js : List ℕ} {c : Counts} {number : ℕ → ℕ} {start before : 
         lower = rw read_is read_below;
       }
 
-      exits-good : exits_verdict js (size ws g) k (exits_at js (number g) k) ≡ Sound
+      exits-good : exits_verdict js (size ws g) k (exits_at js (number g) k) ≡ Ok tt
       exits-good =
           exits-same ws js (size ws g) k (exits_at ws g k) (exits_at js (number g) k) ((o g m l).leaving k h)
           (omega (arith, number_is g m l, first-is, fits, W.inside)) exits-word

@@ -1,10 +1,8 @@
 -- THE JOINED CARD IS BOTH CARDS, as one statement: `Both`. The law `joined-both` (proofs/Both.antt) has it of any two accepted cards and all wires that
 -- pass the tests of a joining. No contract of a call cites it. Assumes nothing.
-use Rattle.std.specs.Prelude.{ℕ, ◌+◌, ◌/◌, ◌<◌, ◌≡◌, List, [], ◌∷◌, ◌++◌, map, false, ◌||◌}
+use Rattle.std.specs.Prelude.{ℕ, ◌+◌, ◌/◌, ◌<◌, ◌≡◌, List, [], ◌∷◌, ◌++◌, map, false, ◌||◌, Ok}
 use Rattle.lists.specs.Each.{Each}
 use Rattle.answers.specs.declared.Counts.{Counts}
-use Rattle.answers.specs.declared.Verdict.TheVariants.{Sound}
-use Rattle.answers.specs.declared.Answer.TheVariants.{Accepted}
 use Rattle.layout.specs.Layout.{observable}
 use Rattle.form.specs.Check.{checked}
 use Rattle.testvectors.specs.Vectors.{vector_verdict}
@@ -51,15 +49,15 @@ module _ (a b : List ℕ) (A B : Counts) (wires : List ℕ) where
 
   -- with the setting s the joined card has, under every vector, the values of A with t and B with u; what A and B get are vectors of the accepted form
   pub record ValuesOfBoth (s t u : Setting) : Type 0 where
-    pub vector-a : (x : List ℕ) → vector_verdict A.inputs (vector_a A B wires x) ≡ Sound
-    pub vector-b : (x : List ℕ) → vector_verdict B.inputs (given_b t x) ≡ Sound
+    pub vector-a : (x : List ℕ) → vector_verdict A.inputs (vector_a A B wires x) ≡ Ok tt
+    pub vector-b : (x : List ℕ) → vector_verdict B.inputs (given_b t x) ≡ Ok tt
     pub value-a : (x : List ℕ) (g : ℕ) → g < A.graphs → value js C s x (number_a A B wires g) ≡ graph_a t x g
     pub value-b : (x : List ℕ) (h : ℕ) → h < B.graphs → value js C s x (number_b A B wires h) ≡ graph_b t u x h
 
   -- THE JOINED CARD IS BOTH CARDS
   pub record Both : Type 0 where
     -- it is accepted, and its graphs are observable as those of A and B are
-    pub accepted : checked js ≡ Accepted C
+    pub accepted : checked js ≡ Ok C
     pub observable-a : (g : ℕ) → g < A.graphs → observable js (number_a A B wires g) ≡ observable a g
     pub observable-b : (h : ℕ) → h < B.graphs → is_wired A B wires (B.nodes + h) ≡ false → observable js (number_b A B wires h) ≡ observable b h
     -- ITS VALUES, with every setting that gives bits

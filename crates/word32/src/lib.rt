@@ -159,10 +159,8 @@ pub fn words_of(b: &[u8], out: &mut [u32]) -> usize
     ensures { (result ≡ length b.now / 4) × (out.new ≡ over (length b.now / 4) (word_at b.now) out.old) }
 {
     let n = b.len() / 4;
-    let mut i = 0;
-    while i < n {
+    for i in 0..n {
         out[i] = word_at(b, i);
-        i += 1;
     }
     n
 }
@@ -172,9 +170,7 @@ pub fn bytes_of(words: &[u32], out: &mut [u8])
     requires { length words.now * 4 ≤ length out.old }
     ensures { out.new ≡ over (length words.now * 4) (byte_of words.now) out.old }
 {
-    let mut i = 0;
-    while i < words.len() {
-        put_word(out, i, words[i]);
-        i += 1;
+    for (i, w) in words.iter().enumerate() {
+        put_word(out, i, *w);
     }
 }

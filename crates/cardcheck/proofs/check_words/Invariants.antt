@@ -4,8 +4,8 @@ use Rattle.std.proofs.Common.{◌≡◌, ◌-◌}
 use Rattle.cardcheck.proofs.Graphs.{Going}
 use Rattle.cardcheck.proofs.check_words.Given as goal
 
-abbrev pub invariant-loop-answer : goal.invariant-loop-answer
-invariant-loop-answer l = (l.r.words.now ≡ l.card) × Going l.card l.extra l.c l.r.at l.table
+abbrev pub invariant-loop-h : goal.invariant-loop-h
+invariant-loop-h l = (l.r.words.now ≡ l.card) × Going l.card l.extra l.c l.r.at l.table
 
-abbrev pub decreases-loop-answer : goal.decreases-loop-answer
-decreases-loop-answer l = 1025 - l.c.graphs
+abbrev pub decreases-loop-h : goal.decreases-loop-h
+decreases-loop-h l = 1025 - l.c.graphs

@@ -5,12 +5,9 @@ use Rattle.answers.proofs.Ends.{filled-held, filled-room}
 use Rattle.answers.proofs.Positions.{outcome-stands}
 use Rattle.form.proofs.Positions.{check-low}
 use Rattle.inbytes.specs.Calls.{room}
-use Rattle.inbytes.proofs.Laws.{read-slice, check-read, in_bytes}
+use Rattle.inbytes.proofs.Laws.{check-read, in_bytes}
 use Rattle.cardcounts.specs.Calls.{check_work, check_outcome}
 use Rattle.cardhost.proofs.card_check.Goals as goal
-
-pub slice_bounds-check_counts-end : goal.slice_bounds-check_counts-end
-slice_bounds-check_counts-end c = read-slice c.read_words-n.ensures
 
 pub answer-requires : goal.answer-requires
 answer-requires c =
@@ -19,4 +16,4 @@ answer-requires c =
 
 pub returns : goal.returns
 returns c =
-    in_bytes (check_outcome _) _ c.check_counts-end.ensures (check-read c.card_room-ws.ensures c.read_words-n.ensures (check_work (room c.args.numbers.now))) c.answer.ensures
+    in_bytes (check_outcome _) _ c.check_counts-end.ensures (check-read _ c.card_room-ws.ensures c.read-card.ensures (check_work (room c.args.numbers.now))) c.answer.ensures

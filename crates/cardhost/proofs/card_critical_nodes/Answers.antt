@@ -3,15 +3,9 @@ use native.Mathlib.Omega.{arith}
 use borrow.Author.Rules.{rules}
 use Rattle.answers.proofs.Ends.{filled-held, filled-room}
 use Rattle.opening.proofs.Laws.{vector-stands}
-use Rattle.inbytes.proofs.Laws.{read-slice, vector-read, in_bytes}
+use Rattle.inbytes.proofs.Laws.{vector-read, in_bytes}
 use Rattle.changes.specs.Calls.{critical_tests, critical_work, critical_outcome}
 use Rattle.cardhost.proofs.card_critical_nodes.Goals as goal
-
-pub slice_bounds-critical_nodes_with-end : goal.slice_bounds-critical_nodes_with-end
-slice_bounds-critical_nodes_with-end c = read-slice c.read_words-n.ensures
-
-pub slice_bounds-critical_nodes_with-end-2 : goal.slice_bounds-critical_nodes_with-end-2
-slice_bounds-critical_nodes_with-end-2 c = read-slice c.read_words-k.ensures
 
 pub answer-requires : goal.answer-requires
 unfolding critical_tests
@@ -21,5 +15,5 @@ answer-requires c =
 
 pub returns : goal.returns
 returns c =
-    let same = vector-read c.card_room-ws.ensures c.vector_room-x.ensures c.read_words-n.ensures c.read_words-k.ensures (critical_work _) in
+    let same = vector-read _ _ c.card_room-ws.ensures c.vector_room-x.ensures c.read-card.ensures c.read-vector.ensures (critical_work _) in
     in_bytes (critical_outcome _ _) _ c.critical_nodes_with-end.ensures same c.answer.ensures

@@ -1,25 +1,18 @@
 -- `cardhost::card_fault_values` meets its contract. Assumes nothing.
-use mathlib.Core.Path.{sym, ap, ◌∙◌}
+use mathlib.Core.Path.{ap, ◌∙◌}
 use native.Mathlib.Omega.{arith}
-use lib.Seq.{length-take-le}
 use Rattle.answers.proofs.Ends.{filled-held, filled-room}
 use Rattle.value.specs.Settings.{faulty}
 use Rattle.faultlist.specs.Faults.{fault_tests}
 use Rattle.opening.proofs.Laws.{vector-stands}
-use Rattle.inbytes.proofs.Laws.{read-slice, vector-read, in_bytes}
+use Rattle.inbytes.proofs.Laws.{vector-read, in_bytes}
 use Rattle.hostfaults.proofs.Laws.{fault-low}
 use Rattle.plain.specs.Calls.{values_work, fault_outcome}
 use Rattle.plain.proofs.Lists.{one-call}
 use Rattle.cardhost.proofs.card_fault_values.Goals as goal
 
-pub slice_bounds-fault_values_with-end : goal.slice_bounds-fault_values_with-end
-slice_bounds-fault_values_with-end c = read-slice c.read_words-n.ensures
-
-pub slice_bounds-fault_values_with-end-2 : goal.slice_bounds-fault_values_with-end-2
-slice_bounds-fault_values_with-end-2 c = read-slice c.read_words-k.ensures
-
-pub slice_bounds-fault_values_with-end-3 : goal.slice_bounds-fault_values_with-end-3
-slice_bounds-fault_values_with-end-3 c = sym (length-take-le _ _ c.read_faults-m.ensures.fits)
+pub slice_bounds-numbers-end : goal.slice_bounds-numbers-end
+slice_bounds-numbers-end c = c.read_faults-m.ensures.fits
 
 pub answer-requires : goal.answer-requires
 answer-requires c =
@@ -29,6 +22,6 @@ answer-requires c =
 pub returns : goal.returns
 returns c =
     let f = c.read_faults-m.ensures in
-    let same = vector-read c.card_room-ws.ensures c.vector_room-x.ensures c.read_words-n.ensures c.read_words-k.ensures (values_work (fault_tests _ _ _) (faulty _))
+    let same = vector-read _ _ c.card_room-ws.ensures c.vector_room-x.ensures c.read-card.ensures c.read-vector.ensures (values_work (fault_tests _ _ _) (faulty _))
     ∙ one-call _ _ (fault_tests _ _ _) (fault_tests _ _ _) _ _ (f.tested _ _) (λ c s. ap faulty (f.passed _ _ c s)) in
     in_bytes (fault_outcome _ _ _) _ c.fault_values_with-end.ensures same c.answer.ensures

@@ -1,14 +1,11 @@
 -- `cardhost::card_from_gates` meets its contract. Assumes nothing.
 use native.Mathlib.Omega.{arith}
 use Rattle.answers.proofs.Ends.{filled-held, filled-room}
-use Rattle.inbytes.proofs.Laws.{read-slice, in_bytes}
+use Rattle.inbytes.proofs.Laws.{in_bytes}
 use Rattle.gates.specs.Calls.{to_card_outcome}
 use Rattle.gates.proofs.Clip.{to-card-stands}
 use Rattle.cardhost.proofs.Laws.{gates-read}
 use Rattle.cardhost.proofs.card_from_gates.Goals as goal
-
-pub slice_bounds-to_card_with-end : goal.slice_bounds-to_card_with-end
-slice_bounds-to_card_with-end c = read-slice c.read_words-n.ensures
 
 pub answer-requires : goal.answer-requires
 answer-requires c =
@@ -17,4 +14,4 @@ answer-requires c =
 
 pub returns : goal.returns
 returns c =
-    in_bytes (to_card_outcome _) _ c.to_card_with-end.ensures (gates-read _ c.card_room-ws.ensures c.read_words-n.ensures) c.answer.ensures
+    in_bytes (to_card_outcome _) _ c.to_card_with-end.ensures (gates-read _ _ c.card_room-ws.ensures c.read-gates.ensures) c.answer.ensures

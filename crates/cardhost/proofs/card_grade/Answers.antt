@@ -3,12 +3,9 @@ use native.Mathlib.Omega.{arith}
 use borrow.Author.Rules.{rules}
 use Rattle.answers.proofs.Ends.{filled-held, filled-room}
 use Rattle.opening.proofs.Laws.{list-stands}
-use Rattle.inbytes.proofs.Laws.{read-slice, list_read, in-bytes-both}
+use Rattle.inbytes.proofs.Laws.{list_read, in-bytes-both}
 use Rattle.grade.specs.Calls.{grade_tests, grade_work, grade_outcome}
 use Rattle.cardhost.proofs.card_grade.Goals as goal
-
-pub slice_bounds-grade_with-end : goal.slice_bounds-grade_with-end
-slice_bounds-grade_with-end c = read-slice c.read_words-n.ensures
 
 pub answer_both-requires : goal.answer_both-requires
 unfolding grade_tests
@@ -23,5 +20,5 @@ answer_both-requires c =
 
 pub returns : goal.returns
 returns c =
-    let same = list_read _ c.card_room-ws.ensures c.read_words-n.ensures (grade_work _ _) in
+    let same = list_read _ _ c.card_room-ws.ensures c.read-card.ensures (grade_work _ _) in
     in-bytes-both (grade_outcome _ _) _ _ c.grade_with-end.ensures same c.answer_both.ensures

@@ -14,10 +14,6 @@ note_readers-requires c =
       none-noted _ e.1,
     )
 
-pub first_nodes-requires-2 : goal.first_nodes-requires-2
-first_nodes-requires-2 c =
-    (c.requires, search rules)
-
 pub grade_sites-requires : goal.grade_sites-requires
 grade_sites-requires c =
     let few = c.requires.few-graphs in

@@ -1,7 +1,6 @@
 -- `catches::catch_nodes` meets its contract. Assumes nothing.
 use mathlib.Core.Path.{sym, ◌∙◌}
 use native.Mathlib.Omega.{arith}
-use Rattle.layout.proofs.NodeNumbers.{some-node}
 use Rattle.catches.proofs.Words.{nodes-inside, nodes-cleared, along-quiet, along-start, along_then}
 use Rattle.catches.proofs.Steps.{quiet-nodes}
 use Rattle.catches.proofs.catch_nodes.Goals as goal
@@ -18,10 +17,6 @@ returns-then-not-alters c =
 pub returns-then-g-c : goal.returns-then-g-c
 returns-then-g-c c =
     λ x p a. along-quiet (nodes-cleared c.requires.0 c.requires.2 c.clear_nodes.ensures) (λ i b. absurd (omega (arith, (c.requires.0.shape.input _ c.if-g-c.true).1)))
-
-pub catch_path-requires : goal.catch_path-requires
-catch_path-requires c =
-    (c.requires.0, c.requires.1, c.requires.2, some-node c.requires.0 c.requires.2 c.if-g-c.false, omega (arith, c.requires.3, c.clear_nodes.ensures.long))
 
 pub returns : goal.returns
 returns c =

@@ -16,13 +16,6 @@ pub returns-then-is_observable : goal.returns-then-is_observable
 returns-then-is_observable c =
     λ x p s. (sym (critical-observable c.requires.0.ready.shape x _ c.requires.2 (sym c.is_observable.ensures ∙ c.if-is_observable.true)), s.flat)
 
-pub sole_reader-sole-requires : goal.sole_reader-sole-requires
-sole_reader-sole-requires c =
-    (omega (arith, c.requires.0.ready.shape.few-graphs, c.requires.2), omega (arith, c.requires.0.long))
-
-pub overflow_sub-sole : goal.overflow_sub-sole
-overflow_sub-sole c = omega (arith, (sole-both c.sole_reader-sole.result (sym c.is_sole.ensures ∙ c.if-is_sole.true)).0)
-
 pub get-requires : goal.get-requires
 get-requires c =
     let e = c.sole_reader-sole.ensures in
@@ -34,10 +27,6 @@ pub returns-then-is_sole : goal.returns-then-is_sole
 returns-then-is_sole c =
     let o = sym c.is_observable.ensures ∙ c.if-is_observable.false in
     λ x p s. (sole-tells c.requires.0 c.requires.2 o c.sole_reader-sole.ensures (sole-both _ (sym c.is_sole.ensures ∙ c.if-is_sole.true)) s.detections c.get.ensures, s.flat)
-
-pub is_critical-requires : goal.is_critical-requires
-is_critical-requires c =
-    (c.requires.0, c.requires.2, sym c.is_observable.ensures ∙ c.if-is_observable.false, c.requires.1, c.requires.3, c.requires.4)
 
 pub returns : goal.returns
 returns c = λ x p s. c.is_critical.ensures x p s.flat

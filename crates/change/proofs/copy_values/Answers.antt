@@ -1,17 +1,11 @@
-use mathlib.Core.Path.{◌≡◌, refl, sym, ◌∙◌}
-use native.Mathlib.Omega.{arith}
-use Rattle.lists.proofs.Tables.{over_none, over-store}
-use borrow.Author.Rules.{rules}
+-- `change::copy_values` meets its contract. Assumes nothing.
+use mathlib.Core.Path.{ap, ◌∙◌}
+use mathlib.Core.List.{◌++◌}
+use lib.ListN.{drop}
+use Rattle.change.proofs.Laws.{words-from}
 use Rattle.change.proofs.copy_values.Goals as goal
-
-pub loop-h-init : goal.loop-h-init
-loop-h-init c = (omega arith, refl, sym (over_none _ _))
-
-pub loop-h-preserved : goal.loop-h-preserved
-loop-h-preserved c =
-    (omega arith, search rules, c.put.ensures ∙ rw c.loop-h.invariant.2 (over-store _ _ c.loop-h.h _ (omega (arith, c.requires.1)) c.get-own.ensures))
 
 pub returns : goal.returns
 returns c =
-    let e : c.loop-h.h ≡ c.args.c.graphs = omega arith in
-    rw e at c.loop-h.invariant.2
+    let n = c.args.c.graphs in
+    ap (◌++ drop n c.args.flips.now) (c.copy_from_slice.ensures.after ∙ words-from c.args.values.now c.args.c.nodes n c.requires.0)

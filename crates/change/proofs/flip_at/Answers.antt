@@ -1,6 +1,7 @@
 -- `change::flip_at` meets its contract. Assumes nothing.
 use native.Mathlib.Omega.{arith}
 use Rattle.layout.proofs.NodeNumbers.{walkable, some-node}
+use Rattle.value.proofs.Walking.{walk-value}
 use Rattle.change.proofs.Laws.{flip-input, flip-output}
 use Rattle.change.proofs.flip_at.Goals as goal
 
@@ -12,10 +13,6 @@ pub walk_graph-v-requires : goal.walk_graph-v-requires
 walk_graph-v-requires c =
     (walkable c.requires.0 c.requires.1, some-node c.requires.0 c.requires.1 c.if-h-c.false, omega (arith, c.requires.1, c.requires.2))
 
-pub put-requires : goal.put-requires
-put-requires c =
-    omega (arith, c.requires.1, c.requires.2)
-
 pub returns : goal.returns
 returns c =
-    λ x g l s. flip-output c.requires.0.shape x g s l c.requires.1 c.if-h-c.false c.walk_graph-v.ensures c.put.ensures
+    λ x g l s. flip-output c.requires.0.shape x g s l c.requires.1 c.if-h-c.false (walk-value _ _ _ c.walk_graph-v.ensures) c.put.ensures

@@ -7,12 +7,11 @@ use lib.Dec.{eqb}
 use Rattle.lists.specs.Counting.{count}
 use Rattle.lists.proofs.Counting.{count-le, count-more}
 use Rattle.changes.proofs.Laws.{chosen_none, chosen_more}
-use borrow.Author.Rules.{rules}
 use Rattle.changes.proofs.list_changes.Goals as goal
 
 pub loop-h-init : goal.loop-h-init
 unfolding count
-loop-h-init c = (omega arith, refl, refl, chosen_none _ _)
+loop-h-init c = (refl, chosen_none _ _)
 
 pub append-n-requires : goal.append-n-requires
 append-n-requires c =
@@ -25,13 +24,6 @@ loop-h-preserved c =
     let b = not (eqb c.get.result c.get-in-loop-h.result) in
     let e : p c.loop-h.h ≡ b = rw (c.get.ensures, c.get-in-loop-h.ensures) in
     let o = c.append-n.ensures in (
-      omega arith,
-      search rules,
-      o.number ∙ rw c.loop-h.invariant.2 (count-more p c.loop-h.h b e),
-      o.words ∙ rw (c.loop-h.invariant.3, c.loop-h.invariant.2) (chosen_more p c.args.list.now c.loop-h.h b e (omega (arith, c.requires.3))),
+      o.number ∙ rw c.loop-h.invariant.0 (count-more p c.loop-h.h b e),
+      o.words ∙ rw (c.loop-h.invariant.1, c.loop-h.invariant.0) (chosen_more p c.args.list.now c.loop-h.h b e (omega (arith, c.requires.3))),
     )
-
-pub returns : goal.returns
-returns c =
-    let e : c.loop-h.h ≡ c.args.c.graphs = omega arith in
-    (rw e at c.loop-h.invariant.2, rw e at c.loop-h.invariant.3)

@@ -8,10 +8,6 @@ use Rattle.critical.proofs.WalkEnd.{last-tells, listed-alone}
 use borrow.Author.Rules.{rules}
 use Rattle.critical.proofs.is_critical.Goals as goal
 
-pub stopped_walk-n-requires : goal.stopped_walk-n-requires
-stopped_walk-n-requires c =
-    (c.requires.0, c.requires.1, c.requires.2, c.requires.4, c.requires.5)
-
 pub is_observable-requires : goal.is_observable-requires
 is_observable-requires c =
     let w = c.stopped_walk-n.ensures.2 in

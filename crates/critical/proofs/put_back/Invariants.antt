@@ -1,14 +1,11 @@
 -- `critical::put_back` meets its contract. The invariant: where each word was v's but for those of listed graphs, it is but for those listed from place e on.
 -- Assumes nothing.
-use Prim.Native.Nat.{ℕ, ◌<◌, ◌+◌, ◌-◌}
-use mathlib.Core.Path.{◌≡◌}
-use lib.ListN.{length, get_or}
+use Rattle.std.proofs.Common.{◌≡◌, ◌+◌, ◌<◌, ℕ, get_or}
 use Rattle.critical.specs.Walking.{Entries, But}
 use Rattle.critical.proofs.put_back.Given as goal
 
 abbrev pub invariant-loop-e : goal.invariant-loop-e
-invariant-loop-e l = (length l.walk ≡ length l.initial.walk) × Entries l.c.graphs l.n l.walk
-    × ((v : ℕ → ℕ) → ((i : ℕ) → i < l.c.graphs → get_or l.values (l.c.nodes + i) 0 ≡ v i) → But v l.c.graphs 0 l.n l.initial.walk → But v l.c.graphs l.e l.n l.walk)
-
-abbrev pub decreases-loop-e : goal.decreases-loop-e
-decreases-loop-e l = l.n - l.e
+invariant-loop-e l = record {
+  entries : Entries l.c.graphs l.n l.walk;
+  back : (v : ℕ → ℕ) → ((i : ℕ) → i < l.c.graphs → get_or l.values (l.c.nodes + i) 0 ≡ v i) → But v l.c.graphs 0 l.n l.initial.walk → But v l.c.graphs l.e l.n l.walk;
+}

@@ -1,6 +1,7 @@
 -- `critical::step` meets its contract. Assumes nothing.
 use native.Mathlib.Omega.{arith}
 use Rattle.layout.proofs.NodeNumbers.{walkable, some-node}
+use Rattle.value.proofs.Walking.{walk-value}
 use Rattle.critical.proofs.Steps.{entry_more, hidden-more, input-step, kept_step, listed-step}
 use borrow.Author.Rules.{rules}
 use Rattle.critical.proofs.step.Goals as goal
@@ -16,7 +17,7 @@ walk_graph-v-requires c =
 
 pub returns-then-v-own : goal.returns-then-v-own
 returns-then-v-own c =
-    (omega (arith, c.requires.2), c.requires.3, λ o. c.requires.4, λ x g s. kept_step c.requires.0 c.requires.1 s c.if-h-c.false c.walk_graph-v.ensures c.get-own.ensures c.if-v-own.true)
+    (omega (arith, c.requires.2), c.requires.3, λ o. c.requires.4, λ x g s. kept_step c.requires.0 c.requires.1 s c.if-h-c.false (walk-value _ _ _ c.walk_graph-v.ensures) c.get-own.ensures c.if-v-own.true)
 
 pub returns : goal.returns
 returns c =
@@ -25,5 +26,5 @@ returns c =
       omega (arith, c.requires.2),
       entry_more c.requires.3 c.requires.1 (omega (arith, few, c.requires.1, c.requires.2)) z,
       λ o. hidden-more c.requires.4 (omega (arith, few, c.requires.1, c.requires.2)) z o,
-      λ x g s. listed-step c.requires.0 c.requires.1 s c.if-h-c.false c.walk_graph-v.ensures c.get-own.ensures c.if-v-own.false z (search rules),
+      λ x g s. listed-step c.requires.0 c.requires.1 s c.if-h-c.false (walk-value _ _ _ c.walk_graph-v.ensures) c.get-own.ensures c.if-v-own.false z (search rules),
     )

@@ -1,22 +1,9 @@
-use mathlib.Core.Path.{refl}
 use native.Mathlib.Omega.{arith}
 use Rattle.layout.proofs.NodeNumbers.{walkable}
 use Rattle.critical.proofs.WalkEnd.{all_listed}
 use Rattle.critical.proofs.Steps.{skipped}
 use borrow.Author.Rules.{rules}
 use Rattle.critical.proofs.stopped_walk.Goals as goal
-
-pub begin-requires : goal.begin-requires
-begin-requires c =
-    (c.requires.1, c.requires.0.ready.shape.few-graphs, omega (arith, c.requires.0.long), c.requires.3, c.requires.4)
-
-pub loop-c-init : goal.loop-c-init
-loop-c-init c =
-    (omega arith, omega (arith, c.requires.1), refl, c.begin.ensures.0, c.begin.ensures.1 _ c.requires.2, λ x s. s)
-
-pub next-h-requires : goal.next-h-requires
-next-h-requires c =
-    (c.requires.0.ready.shape.few-graphs, search rules)
 
 pub returns-then-c-h : goal.returns-then-c-h
 returns-then-c-h c =
@@ -26,10 +13,6 @@ returns-then-c-h c =
       λ x s. all_listed a x _ c.requires.1 (skipped a (inv.5 x (c.begin.ensures.2 _ x c.requires.0 c.requires.2 s)) c.next-h.ensures _ inv.1 c.if-c-h.true (omega arith)),
       inv.3,
     )
-
-pub step-m-requires : goal.step-m-requires
-step-m-requires c =
-    (c.requires.0, omega (arith, c.if-c-h.false), omega (arith, c.loop-c.invariant.0, c.next-h.ensures.onward), c.loop-c.invariant.3, c.loop-c.invariant.4, search rules)
 
 pub is_last-requires : goal.is_last-requires
 is_last-requires c =
@@ -46,10 +29,6 @@ returns-then-is_last c =
           (r.3 x _ w).seen (rw c.is_last.ensures at c.if-is_last.true),
       r.1,
     )
-
-pub loop-c-smaller : goal.loop-c-smaller
-loop-c-smaller c =
-    omega (arith, c.next-h.ensures.onward, c.if-c-h.false)
 
 pub loop-c-preserved : goal.loop-c-preserved
 loop-c-preserved c =

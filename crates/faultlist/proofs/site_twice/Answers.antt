@@ -6,14 +6,12 @@ use Rattle.faultlist.proofs.site_twice.Goals as goal
 pub returns-then-at_site : goal.returns-then-at_site
 returns-then-at_site c =
     let l = c.loop-i in
-    let e = rw c.get.ensures at c.at_site.ensures in
-    sym (l.invariant ∙ twice-hit _ l.i c.loop-i-test.true (sym e ∙ c.if-at_site.true))
+    sym (l.invariant ∙ twice-hit c.args.faults.now l.i c.loop-i-test.true (sym c.at_site.ensures ∙ c.if-at_site.true))
 
 pub loop-i-preserved : goal.loop-i-preserved
 loop-i-preserved c =
     let l = c.loop-i in
-    let e = rw c.get.ensures at c.at_site.ensures in
-    l.invariant ∙ twice-next _ l.i c.loop-i-test.true (sym e ∙ c.if-at_site.false)
+    l.invariant ∙ twice-next c.args.faults.now l.i c.loop-i-test.true (sym c.at_site.ensures ∙ c.if-at_site.false)
 
 pub returns : goal.returns
 returns c =

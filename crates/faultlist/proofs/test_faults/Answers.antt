@@ -7,28 +7,28 @@ use Rattle.faultlist.proofs.test_faults.Goals as goal
 pub returns-then-too_high : goal.returns-then-too_high
 returns-then-too_high c = high-told _ _ _ _ (sym c.too_high.ensures ∙ c.if-too_high.true)
 
-pub returns-then-extra-gt0 : goal.returns-then-extra-gt0
-returns-then-extra-gt0 c =
-    odd-told _ _ _ _ (sym c.too_high.ensures ∙ c.if-too_high.false) (omega (arith, c.if-extra-gt0.true))
+pub returns-then-faults-gt0 : goal.returns-then-faults-gt0
+returns-then-faults-gt0 c =
+    odd-told _ _ _ _ (sym c.too_high.ensures ∙ c.if-too_high.false) (omega (arith, c.if-faults-gt0.true))
 
 pub returns-then-faults-gt8 : goal.returns-then-faults-gt8
 returns-then-faults-gt8 c =
     let low = sym c.too_high.ensures ∙ c.if-too_high.false in
-    many-told _ _ _ _ low c.if-extra-gt0.false (omega (arith, c.if-faults-gt8.true))
+    many-told _ _ _ _ low c.if-faults-gt0.false (omega (arith, c.if-faults-gt8.true))
 
 pub returns-then-site_twice : goal.returns-then-site_twice
 returns-then-site_twice c =
     let low = sym c.too_high.ensures ∙ c.if-too_high.false in
-    twice-told _ _ _ _ low c.if-extra-gt0.false (omega (arith, c.if-faults-gt8.false)) (sym c.site_twice.ensures ∙ c.if-site_twice.true)
+    twice-told _ _ _ _ low c.if-faults-gt0.false (omega (arith, c.if-faults-gt8.false)) (sym c.site_twice.ensures ∙ c.if-site_twice.true)
 
 pub returns-then-room-c : goal.returns-then-room-c
 returns-then-room-c c =
     let low = sym c.too_high.ensures ∙ c.if-too_high.false in
     let apart = sym c.site_twice.ensures ∙ c.if-site_twice.false in
-    short-told _ _ _ _ low c.if-extra-gt0.false (omega (arith, c.if-faults-gt8.false)) apart c.if-room-c.true
+    short-told _ _ _ _ low c.if-faults-gt0.false (omega (arith, c.if-faults-gt8.false)) apart c.if-room-c.true
 
 pub returns : goal.returns
 returns c =
     let low = sym c.too_high.ensures ∙ c.if-too_high.false in
     let apart = sym c.site_twice.ensures ∙ c.if-site_twice.false in
-    none_told _ _ _ _ low c.if-extra-gt0.false (omega (arith, c.if-faults-gt8.false)) apart c.if-room-c.false
+    none_told _ _ _ _ low c.if-faults-gt0.false (omega (arith, c.if-faults-gt8.false)) apart c.if-room-c.false

@@ -6,6 +6,3 @@ use Rattle.gatecheck.proofs.check_leads.Given as goal
 
 abbrev pub invariant-loop-k : goal.invariant-loop-k
 invariant-loop-k l = (l.k ≤ l.n) × (leads_verdict l.gates l.line l.n l.p ≡ leads_verdict l.gates l.line (l.n - l.k) (l.p + l.k))
-
-abbrev pub decreases-loop-k : goal.decreases-loop-k
-decreases-loop-k l = l.n - l.k

@@ -1,5 +1,7 @@
 -- `gates::to_card_with` meets its contract. Assumes nothing.
-use mathlib.Core.Path.{sym, ◌∙◌}
+use mathlib.Core.Path.{◌≡◌, sym, ◌∙◌}
+use Rattle.std.specs.Prelude.{Err}
+use Rattle.std.proofs.Common.{rules}
 use native.Mathlib.Omega.{arith}
 use borrow.Author.Tests.{lt-ltb, le-ltb}
 use Rattle.answers.proofs.Ends.{stops, breaks, finishes}
@@ -9,29 +11,31 @@ use Rattle.gates.proofs.to_card_with.Goals as goal
 
 pub overflow_mul-c : goal.overflow_mul-c
 overflow_mul-c c =
-    omega (arith, (gates-check-accepts _ _ (sym c.check_with.ensures ∙ c.in-Accepted.is)).few-leads)
+    omega (arith, (gates-check-accepts _ _ (sym c.check_lent.ensures ∙ c.in_ok-c.was)).few-leads)
 
 pub overflow_add-c : goal.overflow_add-c
 overflow_add-c c =
-    let l = gates-check-accepts _ _ (sym c.check_with.ensures ∙ c.in-Accepted.is) in
+    let l = gates-check-accepts _ _ (sym c.check_lent.ensures ∙ c.in_ok-c.was) in
     omega (arith, l.few-lines, l.few-leads)
 
 pub returns-then-room-c : goal.returns-then-room-c
 returns-then-room-c c =
-    let e = sym c.check_with.ensures ∙ c.in-Accepted.is in
-    rw c.refused-then-room-c.ensures (breaks _ _ _ _ e (rw (card-long (gates-check-accepts _ _ e), lt-ltb _ _ c.if-room-c.true)))
+    let e = sym c.check_lent.ensures ∙ c.in_ok-c.was in
+    breaks _ _ _ _ e (rw (card-long (gates-check-accepts _ _ e), lt-ltb _ _ c.if-room-c.true))
 
 pub write_card-n-requires : goal.write_card-n-requires
 write_card-n-requires c =
-    let l = gates-check-accepts _ _ (sym c.check_with.ensures ∙ c.in-Accepted.is) in
+    let l = gates-check-accepts _ _ (sym c.check_lent.ensures ∙ c.in_ok-c.was) in
     (l, omega (arith, l.few-lines, l.few-leads, c.if-room-c.false, c.requires))
 
-pub returns-in-Refused : goal.returns-in-Refused
-returns-in-Refused c = rw c.refused.ensures (stops _ _ _ _ (sym c.check_with.ensures ∙ c.in-Refused.is))
+pub returns-in_err-c : goal.returns-in_err-c
+returns-in_err-c c =
+    let up : c.from_residual.result ≡ Err c.in_err-c.field-0.0 = search rules in
+    rw up (stops _ _ _ _ (sym c.check_lent.ensures ∙ c.in_err-c.was))
 
-pub returns-else-room-c : goal.returns-else-room-c
-returns-else-room-c c =
-    let e = sym c.check_with.ensures ∙ c.in-Accepted.is in
+pub returns : goal.returns
+returns c =
+    let e = sym c.check_lent.ensures ∙ c.in_ok-c.was in
     let long = card-long (gates-check-accepts _ _ e) in
     let o = c.write_card-n.ensures in
     finishes _ _ _ _ e (rw (long, le-ltb _ _ c.if-room-c.false)) o.0 (record { count = o.0; fits = rw long c.if-room-c.false; buffer = o.1 })

@@ -1,21 +1,11 @@
 -- `gatewords::put_line` meets its contract. Assumes nothing.
-use mathlib.Core.Path.{◌∙◌}
 use native.Mathlib.Omega.{arith}
-use lib.ListN.{get_or, length-set}
+use lib.ListN.{get_or}
 use Rattle.lists.specs.Tables.{chain}
 use Rattle.word32.specs.Fields.{kind, lead_count, header_word}
 use Rattle.gatelist.specs.Drawn.{lead_nodes, line_words}
 use Rattle.gatewords.proofs.Written.{put_then}
 use Rattle.gatewords.proofs.put_line.Goals as goal
-
-pub put_nodes-requires : goal.put_nodes-requires
-put_nodes-requires c =
-    let p = c.requires in
-    let e = c.get-w.ensures in
-    (rw e p.0, rw e p.1, rw (e, length-set) p.2)
-
-pub shape_of-out : goal.shape_of-out
-shape_of-out c = c.out-1.given ∙ simp length-set
 
 pub returns : goal.returns
 unfolding line_words

@@ -1,30 +1,19 @@
 use Prim.Native.Nat.{◌+◌, ◌*◌}
-use mathlib.Core.Path.{◌≡◌, refl}
+use mathlib.Core.Path.{refl}
 use native.Mathlib.Omega.{arith}
-use borrow.Author.Rules.{rules}
 use Rattle.lists.proofs.Chain.{chain-pairs}
-use Rattle.word32.specs.Fields.{lead_count}
 use Rattle.gatelist.specs.Drawn.{lead_nodes}
 use Rattle.gatewords.proofs.Written.{chain-start, chain-put}
 use Rattle.gatewords.proofs.put_nodes.Goals as goal
 
 pub loop-k-init : goal.loop-k-init
 loop-k-init c =
-    (omega arith, refl, chain-start _ _ c.args.at (omega (arith, c.requires.2)))
+    chain-start _ _ c.args.at (omega (arith, c.requires.2))
 
 pub loop-k-preserved : goal.loop-k-preserved
 loop-k-preserved c =
     let l = c.loop-k in
     let a = c.args in
-    let nodes = lead_nodes a.gates.now a.p a.w in (
-      search rules,
-      search rules,
-      chain-put nodes a.out.now a.at (omega (arith, c.requires.2)) (a.at + 2 * l.k) l.k (omega (arith, chain-pairs nodes (λ k. refl) l.k)) l.invariant.2
-          (rw (c.get.ensures, c.node_count-n.ensures, c.gate_function-f.ensures) at c.put_node.ensures),
-    )
-
-pub returns : goal.returns
-returns c =
-    let l = c.loop-k in
-    let e : l.k ≡ lead_count c.args.w = omega (arith, c.node_count-n.ensures) in
-    rw e at l.invariant.2
+    let nodes = lead_nodes a.gates.now a.p a.w in
+    chain-put nodes a.out.now a.at (omega (arith, c.requires.2)) (a.at + 2 * l.k) l.k (omega (arith, chain-pairs nodes (λ k. refl) l.k)) l.invariant
+    (rw (c.get.ensures, c.node_count-n.ensures, c.gate_function-f.ensures) at c.put_node.ensures)

@@ -1,14 +1,10 @@
 -- `gatewords::put_nodes` meets its contract. The invariant: the words of k nodes follow the buffer's first words. Assumes nothing.
-use Prim.Native.Nat.{◌≤◌, ◌-◌}
 use mathlib.Core.Path.{◌≡◌}
 use mathlib.Core.List.{◌++◌}
-use lib.ListN.{length, take}
+use lib.ListN.{take}
 use Rattle.lists.specs.Tables.{chain, front}
 use Rattle.gatelist.specs.Drawn.{lead_nodes}
 use Rattle.gatewords.proofs.put_nodes.Given as goal
 
 abbrev pub invariant-loop-k : goal.invariant-loop-k
-invariant-loop-k l = (l.k ≤ l.n) × (length l.out ≡ length l.initial.out) × (l.out ≡ front (take l.at l.initial.out ++ chain (lead_nodes l.gates l.p l.w) l.k) l.initial.out)
-
-abbrev pub decreases-loop-k : goal.decreases-loop-k
-decreases-loop-k l = l.n - l.k
+invariant-loop-k l = l.out ≡ front (take l.at l.initial.out ++ chain (lead_nodes l.gates l.p l.w) l.k) l.initial.out

@@ -11,11 +11,8 @@ put_line-requires c =
 
 pub loop-line-preserved : goal.loop-line-preserved
 loop-line-preserved c =
-    line-drawn _ _ _ c.requires.0 c.loop-line.invariant c.loop-line-test.true c.out-1.given c.put_line.ensures
+    line-drawn _ _ _ c.requires.0 c.loop-line.invariant c.loop-line-test.true c.put_line.auto.out c.put_line.ensures
     c.get.ensures c.node_count-leads.ensures
-
-pub shape_of-out : goal.shape_of-out
-shape_of-out c = c.loop-line.invariant.long
 
 pub returns : goal.returns
 returns c = all-drawn _ _ _ c.requires.0 c.loop-line.invariant c.loop-line-test.false

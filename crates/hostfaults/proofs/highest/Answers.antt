@@ -13,7 +13,7 @@ loop-i-preserved c F =
     let b = c.args.faults.now in
     let inside : l.i < length b / 4 = omega (arith, c.loop-i-test.true) in
     let w = c.word_at.ensures ∙ sym (tab-at (word_at b) (length b / 4) l.i inside) in
-    rw c.higher-high.ensures (high-next F l.high (words_of b) l.i (rw (length-tab (word_at b) (length b / 4)) inside) w ∙ l.invariant F)
+    rw c.max-high.ensures (high-next F l.high (words_of b) l.i (rw (length-tab (word_at b) (length b / 4)) inside) w ∙ l.invariant F)
 
 pub returns : goal.returns
 returns c =

@@ -1,17 +1,10 @@
 -- `inbytes::answer` meets its contract. Assumes nothing.
-use mathlib.Core.Path.{sym, refl}
-use native.Mathlib.Omega.{arith}
-use lib.Seq.{length-take-le}
-use Rattle.inbytes.proofs.Laws.{bytes_left}
+use mathlib.Core.Path.{refl, sym}
+use Rattle.inbytes.proofs.Laws.{bytes_left, bytes-none}
 use Rattle.inbytes.proofs.answer.Goals as goal
 
-pub slice_bounds-bytes_of-end : goal.slice_bounds-bytes_of-end
-slice_bounds-bytes_of-end c = sym (length-take-le _ _ (omega arith))
+pub returns-in-Ok : goal.returns-in-Ok
+returns-in-Ok c = rw c.in-Ok.is (refl, bytes_left _ _ _ _ refl c.bytes_of.ensures)
 
-pub bytes_of-requires : goal.bytes_of-requires
-bytes_of-requires c =
-    let e = length-take-le c.args.end.words c.args.out.now c.requires.1 in
-    omega (arith, e, c.requires.2)
-
-pub returns : goal.returns
-returns c = (c.answer_number.ensures, bytes_left _ _ _ _ refl c.bytes_of.ensures)
+pub returns-in-Err : goal.returns-in-Err
+returns-in-Err c = rw c.in-Err.is (c.refusal.ensures, sym (bytes-none _))

@@ -1,36 +1,37 @@
 -- `join::join_with` meets its contract. Assumes nothing.
-use mathlib.Core.Path.{sym, ◌∙◌}
+use mathlib.Core.Path.{◌≡◌, sym, ◌∙◌}
 use native.Mathlib.Omega.{arith}
+use Rattle.std.specs.Prelude.{Err}
+use Rattle.std.proofs.Common.{rules}
 use Rattle.answers.proofs.Ends.{stops, first_stops, first_goes}
 use Rattle.form.proofs.Checked.{check-accepts}
-use Rattle.form.proofs.Positions.{check-position}
-use Rattle.wiring.proofs.Calls.{refused-on, accepted-on}
+use Rattle.wiring.proofs.Calls.{on-accepted}
 use Rattle.join.proofs.join_with.Goals as goal
 
--- a card that is accepted is short, and a refusal stands far below 2 ^ 32
-pub overflow_add-at : goal.overflow_add-at
-overflow_add-at c =
-    let a = c.args in
-    let x = check-accepts _ _ _ (sym c.check_with.ensures ∙ c.in-Accepted.is) in
-    let e = sym c.check_with-in-Accepted.ensures ∙ c.in-Refused-check_with.is in
-    omega (arith, check-position a.b.now a.left e, x.long, x.shape.few-graphs, x.shape.few-nodes)
+pub returns-in_err-ca : goal.returns-in_err-ca
+returns-in_err-ca c =
+    let up : c.from_residual.result ≡ Err c.in_err-ca.field-0.0 = search rules in
+    rw up (first_stops _ _ _ _ (sym c.check_lent.ensures ∙ c.in_err-ca.was))
+
+pub check_second-requires : goal.check_second-requires
+check_second-requires c =
+    let x = check-accepts _ _ _ (sym c.check_lent.ensures ∙ c.in_ok-ca.was) in
+    omega (arith, x.long, x.shape.few-graphs, x.shape.few-nodes)
+
+pub returns-in_err-cb : goal.returns-in_err-cb
+returns-in_err-cb c =
+    let up : c.from_residual-in_err-cb.result ≡ Err c.in_err-cb.field-0.0 = search rules in
+    rw up (first_goes _ _ _ _ (sym c.check_lent.ensures ∙ c.in_ok-ca.was)
+    (stops _ _ _ _ (sym c.check_second.ensures ∙ c.in_err-cb.was)))
 
 pub join_accepted-requires : goal.join_accepted-requires
 join_accepted-requires c = (
-  check-accepts _ _ _ (sym c.check_with.ensures ∙ c.in-Accepted.is),
-  check-accepts _ _ _ (sym c.check_with-in-Accepted.ensures ∙ c.in-Accepted-check_with.is),
+  check-accepts _ _ _ (sym c.check_lent.ensures ∙ c.in_ok-ca.was),
+  check-accepts _ _ _ (on-accepted _ _ (sym c.check_second.ensures ∙ c.in_ok-cb.was)),
   c.requires,
 )
 
-pub returns-in-Refused : goal.returns-in-Refused
-returns-in-Refused c = rw c.refused.ensures (first_stops _ _ _ _ (sym c.check_with.ensures ∙ c.in-Refused.is))
-
-pub returns-in-Refused-check_with : goal.returns-in-Refused-check_with
-returns-in-Refused-check_with c =
-    rw c.refused-in-Refused-check_with.ensures (first_goes _ _ _ _ (sym c.check_with.ensures ∙ c.in-Accepted.is)
-    (stops _ _ _ _ (refused-on _ _ (sym c.check_with-in-Accepted.ensures ∙ c.in-Refused-check_with.is))))
-
-pub returns-in-Accepted-check_with : goal.returns-in-Accepted-check_with
-returns-in-Accepted-check_with c =
-    first_goes _ _ _ _ (sym c.check_with.ensures ∙ c.in-Accepted.is)
-    (rw (accepted-on _ _ (sym c.check_with-in-Accepted.ensures ∙ c.in-Accepted-check_with.is)) c.join_accepted.ensures)
+pub returns : goal.returns
+returns c =
+    first_goes _ _ _ _ (sym c.check_lent.ensures ∙ c.in_ok-ca.was)
+    (rw (sym c.check_second.ensures ∙ c.in_ok-cb.was) c.join_accepted.ensures)

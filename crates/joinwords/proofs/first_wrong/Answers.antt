@@ -1,24 +1,16 @@
-use mathlib.Core.Path.{◌≡◌, sym, ◌∙◌}
-use native.Mathlib.Omega.{arith}
-use lib.ListN.{length}
-use Rattle.lists.proofs.Counting.{least_start, least-past, least-here}
+-- `joinwords::first_wrong` meets its contract. Assumes nothing.
+use Prim.Native.Nat.{ℕ}
+use Rattle.std.proofs.Common.{◌∙◌, rules, Bool}
+use Rattle.std.proofs.lemmas.Iterator.{YieldsList-from_slice}
+use Rattle.std.proofs.lemmas.Iterator.Search.{position_from_yields_List}
+use borrow.Author.Tests.{tests}
+use Rattle.joinwords.specs.Numbers.{names_none}
+use Rattle.joinwords.proofs.Laws.{first-found, place-or-end}
 use Rattle.joinwords.proofs.first_wrong.Goals as goal
-
-pub loop-i-init : goal.loop-i-init
-loop-i-init c = (omega arith, least_start _)
-
-pub returns-then-is_wrong : goal.returns-then-is_wrong
-returns-then-is_wrong c =
-    let l = c.loop-i in
-    sym (least-here _ _ l.i c.loop-i-test.true l.invariant.1 (sym c.is_wrong.ensures ∙ c.if-is_wrong.true))
-
-pub loop-i-preserved : goal.loop-i-preserved
-loop-i-preserved c =
-    let l = c.loop-i in
-    (omega arith, least-past _ l.i l.invariant.1 (sym c.is_wrong.ensures ∙ c.if-is_wrong.false))
 
 pub returns : goal.returns
 returns c =
-    let l = c.loop-i in
-    let e : l.i ≡ length c.args.wires.now = omega arith in
-    sym l.invariant.1 ∙ rw e
+    let p : ℕ → Bool = names_none c.args.graphs in
+    let w = c.args.wires.now in
+    let e = position_from_yields_List p _ _ c.position.result c.position.ensures.ran (YieldsList-from_slice w cc) (λ x b q k. search (rules, tests)) in
+    c.unwrap_or.ensures ∙ rw e (place-or-end p w) ∙ first-found p w

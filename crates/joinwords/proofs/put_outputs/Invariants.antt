@@ -1,5 +1,4 @@
 -- `joinwords::put_outputs` meets its contract. The invariant: k words under the new numbers follow the buffer's first n words. Assumes nothing.
-use Prim.Native.Nat.{◌≤◌, ◌+◌, ◌-◌}
 use mathlib.Core.Path.{◌≡◌}
 use mathlib.Core.List.{◌++◌}
 use lib.ListN.{length, get_or, take}
@@ -9,8 +8,4 @@ use Rattle.joinwords.proofs.put_outputs.Given as goal
 
 abbrev pub invariant-loop-k : goal.invariant-loop-k
 invariant-loop-k l =
-    (l.k ≤ l.many) × (length l.out ≡ length l.initial.out)
-    × (l.out ≡ front (take l.n l.initial.out ++ tab (λ i. moved (renumbered (length l.inputs) (at l.inputs) l.start) (get_or l.card (length l.inputs + i) 0)) l.k) l.initial.out)
-
-abbrev pub decreases-loop-k : goal.decreases-loop-k
-decreases-loop-k l = l.many - l.k
+    l.out ≡ front (take l.n l.initial.out ++ tab (λ i. moved (renumbered (length l.inputs) (at l.inputs) l.start) (get_or l.words i 0)) l.k) l.initial.out

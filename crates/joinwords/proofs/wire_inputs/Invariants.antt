@@ -1,6 +1,6 @@
 -- `joinwords::wire_inputs` meets its contract. The invariant: the first i words are the numbers of B's inputs, and `due` is that of the next free one.
 -- Assumes nothing.
-use Prim.Native.Nat.{◌≤◌, ◌+◌, ◌-◌}
+use Prim.Native.Nat.{◌+◌}
 use mathlib.Core.Path.{◌≡◌}
 use lib.ListN.{length}
 use Rattle.lists.specs.Tables.{over}
@@ -10,7 +10,4 @@ use Rattle.joinwords.proofs.wire_inputs.Given as goal
 
 abbrev pub invariant-loop-i : goal.invariant-loop-i
 invariant-loop-i l =
-    (l.i ≤ length l.wires) × (length l.out ≡ length l.initial.out) × (l.due ≡ length l.inputs + free_below l.wires l.i) × (l.out ≡ over l.i (wired_input l.wires l.inputs l.start) l.initial.out)
-
-abbrev pub decreases-loop-i : goal.decreases-loop-i
-decreases-loop-i l = length l.wires - l.i
+    (l.due ≡ length l.inputs + free_below l.wires l.i) × (l.out ≡ over l.i (wired_input l.wires l.inputs l.start) l.initial.out)

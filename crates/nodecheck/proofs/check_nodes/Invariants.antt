@@ -5,6 +5,3 @@ use Rattle.nodecheck.proofs.check_nodes.Given as goal
 
 abbrev pub invariant-loop-k : goal.invariant-loop-k
 invariant-loop-k l = (l.r.words ≡ l.initial.r.words) × Going l.initial.r.words.now (l.initial.r.at - 1) l.g l.n l.k l.r.at l.table
-
-abbrev pub decreases-loop-k : goal.decreases-loop-k
-decreases-loop-k l = l.n - l.k

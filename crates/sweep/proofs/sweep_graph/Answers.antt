@@ -3,10 +3,6 @@ use Rattle.layout.proofs.NodeNumbers.{walkable, first-is, size-asks, size-told}
 use Rattle.sweep.proofs.Laws.{input-stored, entrance-inside, output-stored}
 use Rattle.sweep.proofs.sweep_graph.Goals as goal
 
-pub bit-requires : goal.bit-requires
-bit-requires c =
-    c.requires.1.bits _ c.if-g-c.true
-
 pub returns-then-g-c : goal.returns-then-g-c
 returns-then-g-c c =
     input-stored c.requires.0 c.requires.2 c.requires.3 c.if-g-c.true c.bit.ensures c.put.ensures

@@ -1,14 +1,9 @@
 -- `sweep::sweep_nodes` meets its contract. The invariant: under each vector whose lower graphs were done, the nodes from k on have their values.
 -- Assumes nothing.
-use Prim.Native.Nat.{ℕ, ◌≤◌}
-use mathlib.Core.Path.{◌≡◌}
+use Prim.Native.Nat.{ℕ}
 use mathlib.Core.List.{List}
-use lib.ListN.{length}
 use Rattle.sweep.specs.Swept.{Swept, Partly}
 use Rattle.sweep.proofs.sweep_nodes.Given as goal
 
 abbrev pub invariant-loop-k : goal.invariant-loop-k
-invariant-loop-k l = (l.k ≤ l.n) × (length l.values ≡ length l.initial.values) × ((x : List ℕ) → Swept l.card l.c x l.g l.initial.values → Partly l.card l.c x l.g l.k l.values)
-
-abbrev pub decreases-loop-k : goal.decreases-loop-k
-decreases-loop-k l = l.k
+invariant-loop-k l = (x : List ℕ) → Swept l.card l.c x l.g l.initial.values → Partly l.card l.c x l.g l.k l.values

@@ -6,7 +6,4 @@ use Rattle.testvectors.specs.Lists.{list_words}
 use Rattle.testvectors.proofs.check_words.Given as goal
 
 abbrev pub invariant-loop-p : goal.invariant-loop-p
-invariant-loop-p l = (l.p ≤ l.n) × (words_verdict l.m (list_words l.words l.bytes) l.n 0 ≡ words_verdict l.m (list_words l.words l.bytes) (l.n - l.p) l.p)
-
-abbrev pub decreases-loop-p : goal.decreases-loop-p
-decreases-loop-p l = l.n - l.p
+invariant-loop-p l = (l.p ≤ l.n) × (words_verdict l.m (list_words l.list) l.n 0 ≡ words_verdict l.m (list_words l.list) (l.n - l.p) l.p)

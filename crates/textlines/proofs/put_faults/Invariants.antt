@@ -1,14 +1,11 @@
--- `textlines::put_faults` meets its contract. The invariant: the lines of the faults below f are in. Assumes nothing.
-use Prim.Native.Nat.{◌≤◌, ◌-◌, ◌+◌, ◌*◌}
-use Rattle.textlines.specs.Puts.{Puts}
+-- `textlines::put_faults` meets its contract. The invariant: the lines of the faults below f are put, in 28 bytes each at most. Assumes nothing.
+use Rattle.std.proofs.Common.{◌≤◌, ◌+◌, ◌*◌, get_or}
 use Rattle.textlines.specs.Text.{fault_lines}
-use lib.ListN.{length, get_or}
-use mathlib.Core.Path.{◌≡◌}
+use Rattle.textlines.specs.Puts.{Puts}
 use Rattle.textlines.proofs.put_faults.Given as goal
 
 abbrev pub invariant-loop-f : goal.invariant-loop-f
-invariant-loop-f l =
-    (l.f ≤ l.n) × (length l.out ≡ length l.initial.out) × (l.next ≤ l.at + 28 * l.f) × Puts l.initial.out l.at (fault_lines (λ i. get_or l.marks i 0) (λ i. get_or l.tallies i 0) l.f) l.next l.out
-
-abbrev pub decreases-loop-f : goal.decreases-loop-f
-decreases-loop-f l = l.n - l.f
+invariant-loop-f l = record {
+  few : l.next ≤ l.at + 28 * l.f;
+  put : Puts l.initial.out l.at (fault_lines (λ f. get_or l.marks f 0) (λ f. get_or l.tallies f 0) l.f) l.next l.out;
+}

@@ -1,12 +1,8 @@
 -- `textlines::put_mark` meets its contract. Assumes nothing.
 use Rattle.textlines.proofs.Digits.{few-10}
-use borrow.Author.Tests.{eq-eqb, ne_eqb}
+use borrow.Author.Tests.{ne_eqb}
 use native.Mathlib.Omega.{arith}
 use Rattle.textlines.proofs.put_mark.Goals as goal
-
-pub returns-then-mark-eq3221225472 : goal.returns-then-mark-eq3221225472
-returns-then-mark-eq3221225472 c =
-    (rw (eq-eqb _ _ c.if-mark-eq3221225472.true) c.put.ensures, omega (arith, c.put.ensures.ends))
 
 pub put_field-requires : goal.put_field-requires
 put_field-requires c = omega (arith, few-10 _ c.first_vector.ensures.1)

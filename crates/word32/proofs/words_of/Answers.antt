@@ -1,20 +1,10 @@
-use mathlib.Core.Path.{◌≡◌, refl, sym}
-use Prim.Native.Nat.{◌/◌}
+use mathlib.Core.Path.{sym}
 use native.Mathlib.Omega.{arith}
-use lib.ListN.{length, length-set}
 use Rattle.lists.proofs.Tables.{over_none, over-store}
 use Rattle.word32.proofs.words_of.Goals as goal
 
 pub loop-i-init : goal.loop-i-init
-loop-i-init c = (omega arith, refl, sym (over_none _ _))
+loop-i-init c = sym (over_none _ _)
 
 pub loop-i-preserved : goal.loop-i-preserved
-loop-i-preserved c =
-    let l = c.loop-i in
-    (omega arith, simp length-set l.invariant.1, rw l.invariant.2 (over-store _ _ l.i _ (omega arith) c.word_at.ensures))
-
-pub returns : goal.returns
-returns c =
-    let l = c.loop-i in
-    let e : l.i ≡ length c.args.b.now / 4 = omega arith in
-    (refl, rw e at l.invariant.2)
+loop-i-preserved c = let l = c.loop-i in rw l.invariant (over-store _ _ l.i _ (omega arith) c.word_at.ensures)
