@@ -9,7 +9,7 @@ use Rattle.answers.specs.declared.Counts.{Counts}
 use Rattle.std.specs.Prelude.{Ok, Err}
 use Rattle.answers.specs.Answers.{Verdict, Answer, refused}
 use Rattle.answers.specs.declared.Refusal.{Refusal}
-use Rattle.answers.specs.Tests.{Test, unless, first_broken, and_then, onward, room_tests}
+use Rattle.answers.specs.Tests.{Test, unless, first_broken, and_then, onward, room_test, room_tests}
 
 pub not_sound : (r : Refusal) → ◌≡◌ {A = Verdict} (Err r) (Ok tt) → ⊥
 not_sound r e = let z : ◌≡◌ {A = ℕ} 0 1 = cc in omega arith
@@ -49,7 +49,10 @@ passed-sound (t ∷ ts) p = rw (p.0, passed-sound ts p.1)
 pub accepts-onward : {v : Verdict} {a : Answer} {c : Counts} → v ≡ Ok tt → a ≡ Ok c → onward v a ≡ Ok c
 accepts-onward e e' = rw (e, e')
 
--- two buffers that pass have the room
+-- a buffer that passes has the room, and so have two
+pub room-enough : (n room : ℕ) → first_broken (room_test n room) ≡ Ok tt → n ≤ room
+room-enough n room e = ltb-false room n (all-passed (room_test n room) e).0
+
 pub rooms-enough : (n first second : ℕ) → first_broken (room_tests n first second) ≡ Ok tt → (n ≤ first) × (n ≤ second)
 unfolding room_tests
 rooms-enough n first second e =

@@ -31,6 +31,10 @@ abbrev pub onward : Verdict → Answer → Answer
 onward (Ok tt) a = a
 onward (Err r) a = Err r
 
+-- the room of a buffer of so many words, which wants n
+abbrev pub room_test : ℕ → ℕ → List Test
+room_test n room = test (ltb room n) BufferTooShort 0 ∷ []
+
 -- THE ROOM OF TWO BUFFERS of so many words, each of which wants n: the first is tested before the second
 unfoldable pub room_tests : ℕ → ℕ → ℕ → List Test
 room_tests n first second = test (ltb first n) BufferTooShort 0 ∷ test (ltb second n) BufferTooShort 1 ∷ []

@@ -4,7 +4,7 @@
 
 ghost use Rattle.std.specs.Prelude.{◌≡◌};
 ghost use Rattle.answers.specs.Answers.{number_of};
-ghost use Rattle.answers.specs.Tests.{first_broken, room_tests};
+ghost use Rattle.answers.specs.Tests.{first_broken, room_test, room_tests};
 
 // The limits of a card and of a list of vectors; specs/Limits.antt has the same.
 pub const MAX_GRAPHS: usize = 1024;
@@ -20,6 +20,11 @@ pub const MAX_FAULTS: usize = 2 * MAX_SITES;
 pub const MAX_VECTORS: usize = 65535;
 
 pub const MAX_WIDTH: usize = MAX_GRAPHS / 16;
+
+// The mark of a fault that no vector of the list catches, and of one that vector 0 catches; where vector t is the earliest, the mark is FIRST_MARK + t.
+pub const UNMARKED: u32 = 0xC000_0000;
+
+pub const FIRST_MARK: u32 = 0xE000_0000;
 
 // The rules of document 01's table of refusals, and those of the later requests. As a `u32` each is its number.
 #[derive(Clone, Copy, PartialEq, Eq, Debug)]
@@ -109,14 +114,22 @@ impl From<Rule> for u32 {
     }
 }
 
+// The room of a buffer of so many words, which wants n.
+pub fn test_room(n: usize, room: usize) -> Result<(), Refusal>
+    ensures { result ≡ first_broken (room_test n room) }
+{
+    if room < n {
+        return Err(Refusal(Rule::BufferTooShort, 0));
+    }
+    Ok(())
+}
+
 // The room of two buffers of so many words, each of which wants n.
 #[tactic(auto, unfolding(crate::specs::Tests::room_tests))]
 pub fn test_rooms(n: usize, first: usize, second: usize) -> Result<(), Refusal>
     ensures { result ≡ first_broken (room_tests n first second) }
 {
-    if first < n {
-        return Err(Refusal(Rule::BufferTooShort, 0));
-    }
+    test_room(n, first)?;
     if second < n {
         return Err(Refusal(Rule::BufferTooShort, 1));
     }

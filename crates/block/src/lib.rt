@@ -8,8 +8,9 @@ ghost use Rattle.testvectors.specs.Vectors.{vectors as many};
 ghost use Rattle.running.specs.Running.{Counted};
 ghost use Rattle.block.specs.Block.{BlockEnd, Block, TookIn, Begun};
 
-use answers::Counts;
+use answers::{Counts, MAX_SITES, UNMARKED};
 use cardtables::Tables;
+use critical::Walk;
 use running::Running;
 
 // Before the first vector: no fault is marked, and every tally is 0.
@@ -17,7 +18,7 @@ pub fn begin(c: Counts, marks: &mut [u32], tallies: &mut [u32]) -> Running
     requires { (c.faults ≤ length marks.old) × (c.faults ≤ length tallies.old) }
     ensures { Begun c marks.old tallies.old marks.new tallies.new result }
 {
-    lists::fill(marks, c.faults, 0xC000_0000);
+    lists::fill(marks, c.faults, UNMARKED);
     lists::fill(tallies, c.faults, 0);
     Running::start()
 }
@@ -48,9 +49,9 @@ pub fn take_block(
     ensures { TookIn card.now c vectors.now (many c.inputs vectors.now) marks.old tallies.old
         marks.new tallies.new r result }
 {
-    let mut values = layout::site_table();
-    let mut walk = critical::walk_room();
-    let mut caught = layout::site_table();
+    let mut values = lists::filled::<MAX_SITES>(0);
+    let mut walk: Walk = lists::filled(0);
+    let mut caught = lists::filled::<MAX_SITES>(0);
     let n = testvectors::count_vectors(c.inputs, vectors);
     let all = c.nodes + c.graphs;
     let words = &tables[..];

@@ -1,13 +1,15 @@
 -- What the parts of the check promise of one graph. A part is given what was due, a word or the end, and not the card: its promise is for every list of
 -- words in which that is due. The check's own contract cites none of these. Assumes nothing.
-use Rattle.std.specs.Prelude.{ℕ, ◌+◌, ◌-◌, ◌<◌, ◌≤◌, ◌≡◌, List, length, Option, Some, None, Result, Ok, Err}
-use Rattle.word32.specs.Fields.{node_count}
+use Rattle.std.specs.Prelude.{ℕ, ◌+◌, ◌-◌, ◌<◌, ◌≤◌, ◌≡◌, List, [], ◌∷◌, length, eqb, leb, Option, Some, None, Result, Ok, Err}
+use Rattle.word32.specs.Fields.{kind, node_count}
 use Rattle.reader.specs.Due.{Due, due_at}
 use Rattle.answers.specs.Limits.{max_graphs, max_nodes}
 use Rattle.answers.specs.declared.Counts.{Counts}
 use Rattle.answers.specs.declared.Refusal.{Refusal}
 use Rattle.answers.specs.Answers.{Verdict, Answer}
-use Rattle.form.specs.Check.{word, card_length, with_graph, header_verdict, nodes_verdict, graph_verdict, ended, rest}
+use Rattle.answers.specs.Tests.{test, unless, first_broken, and_then}
+use Rattle.answers.specs.declared.Rule.TheVariants.{TooManyGraphs}
+use Rattle.form.specs.Check.{word, card_length, with_graph, input_tests, header_verdict, nodes_verdict, graph_verdict, ended, rest}
 use Rattle.layout.specs.Shape.{Shape}
 use Rattle.nodecheck.specs.Table.{Blank, Names}
 use Rattle.cardcheck.specs.declared.Header.{Header}
@@ -18,6 +20,12 @@ pub record Few (c : Counts) : Type 0 where
   pub graphs : c.graphs ≤ max_graphs
   pub nodes : c.nodes ≤ max_nodes
   pub observable : c.observable ≤ max_graphs
+
+-- the verdict on any header w at p: no graph too many, an input's rules, and of what is no input the verdict v
+unfoldable pub header_by : ℕ → ℕ → Counts → Verdict → Verdict
+header_by w p c v =
+    and_then (first_broken (test (leb max_graphs c.graphs) TooManyGraphs p ∷ []))
+    (unless (eqb (kind w) 0) (first_broken (input_tests w p c)) v)
 
 -- the answer where the words end, of every list of so many words
 abbrev pub EndTold : ℕ → ℕ → Counts → Answer → Type 0

@@ -10,11 +10,13 @@ ghost use Rattle.answers.specs.Limits.{max_graphs, max_nodes};
 ghost use Rattle.answers.specs.Calls.{lends, whole};
 ghost use Rattle.answers.specs.Tests.{first_broken};
 ghost use Rattle.nodecheck.specs.Table.{Blank};
-ghost use Rattle.cardcheck.specs.Graph.{EndTold, DueAfter, opening_of, OpeningTold, Few, GraphTold};
+ghost use Rattle.answers.specs.Answers.{Verdict};
+ghost use Rattle.cardcheck.specs.Graph.{header_by, EndTold, DueAfter, opening_of, OpeningTold, Few, GraphTold};
 
 use answers::{Counts, Lent, MAX_GRAPHS, MAX_NODES, MAX_WORDS, Refusal, Rule};
 use nodecheck::Named;
 use reader::{Due, Reader};
+use word32::WordKind;
 
 // A sound header: its word, where it stands, and how many nodes follow.
 #[derive(Clone, Copy)]
@@ -58,28 +60,31 @@ fn check_output(w: u32, at: usize, c: Counts) -> Result<(), Refusal>
     Ok(())
 }
 
-// Any header.
-fn check_header(w: u32, at: usize, c: Counts) -> Result<(), Refusal>
-    requires { (at ≡ card_length c) × (c.nodes ≤ max_nodes) }
-    ensures { result ≡ header_verdict w c }
+// Any header, where `other` checks what is no input.
+pub fn check_header_by<F: FnOnce(u32, usize, Counts) -> Result<(), Refusal>>(
+    w: u32,
+    at: usize,
+    c: Counts,
+    other: F,
+) -> Result<(), Refusal>
+    requires { F.pre other w at c }
+    ensures { (v : Verdict) → ((r : Verdict) → F.post other w at c r → r ≡ v) → result ≡ header_by w at c v }
 {
     if MAX_GRAPHS <= c.graphs {
         return Err(Refusal(Rule::TooManyGraphs, at));
     }
-    if word32::kind(w) == 0 {
+    if word32::is_kind(w, WordKind::Input) {
         return check_input(w, at, c);
     }
-    check_output(w, at, c)
+    other(w, at, c)
 }
 
-// 1 where a word is of kind k, else 0.
-fn is_kind(w: u32, k: u32) -> usize
-    ensures { (result ≡ choose (eqb (kind w) k) 1 0) × (result ≤ 1) }
+// Any header of a card.
+fn check_header(w: u32, at: usize, c: Counts) -> Result<(), Refusal>
+    requires { (at ≡ card_length c) × (c.nodes ≤ max_nodes) }
+    ensures { result ≡ header_verdict w c }
 {
-    if word32::kind(w) == k {
-        return 1;
-    }
-    0
+    check_header_by(w, at, c, check_output)
 }
 
 // The counts with one graph more, whose header is w.
@@ -87,10 +92,10 @@ pub fn with_graph(w: u32, c: Counts) -> Counts
     requires { Few c }
     ensures { result ≡ with_graph w c }
 {
-    let inputs = c.inputs + is_kind(w, 0);
+    let inputs = c.inputs + usize::from(word32::is_kind(w, WordKind::Input));
     let graphs = c.graphs + 1;
     let nodes = c.nodes + word32::node_count(w);
-    let observable = c.observable + is_kind(w, 2);
+    let observable = c.observable + usize::from(word32::is_kind(w, WordKind::Observable));
     Counts {
         inputs,
         graphs,
@@ -169,7 +174,7 @@ pub fn check_lent(card: Lent<'_>) -> Result<Counts, Refusal>
     if MAX_WORDS < card.words.len() {
         return Err(Refusal(Rule::CardTooLong, 0));
     }
-    let mut table = nodecheck::none_named();
+    let mut table: Named = lists::filled(0);
     check_words(card.words, card.extra, &mut table)
 }
 

@@ -9,18 +9,20 @@ ghost use Rattle.answers.specs.Calls.{lends};
 ghost use Rattle.answers.specs.Ends.{EndsAs};
 ghost use Rattle.cardcounts.specs.Calls.{check_outcome};
 
-use answers::{Counts, Done, Lent, Refusal, Rule};
+use answers::{Counts, Done, Lent, Refusal};
 
 // The numbers of a check go to the front of a buffer, as words.
 fn put_counts(c: Counts, numbers: &mut [u32])
     requires { (c.inputs ≤ max_faults) × (c.graphs ≤ max_faults) × (c.nodes ≤ max_faults) × (c.observable ≤ max_faults) × (c.faults ≤ max_faults) × (5 ≤ length numbers.old) }
     ensures { numbers.new ≡ front (values_of c) numbers.old }
 {
-    numbers[0] = c.inputs as u32;
-    numbers[1] = c.graphs as u32;
-    numbers[2] = c.nodes as u32;
-    numbers[3] = c.observable as u32;
-    numbers[4] = c.faults as u32;
+    numbers[..5].copy_from_slice(&[
+        c.inputs as u32,
+        c.graphs as u32,
+        c.nodes as u32,
+        c.observable as u32,
+        c.faults as u32,
+    ]);
 }
 
 // The check of a card, with its numbers at the front of a buffer, for one of `room` words.
@@ -29,9 +31,7 @@ pub fn check_counts(card: Lent<'_>, room: usize, numbers: &mut [u32]) -> Result<
     ensures { EndsAs (check_outcome (lends card.entry) room) room result numbers.old numbers.new }
 {
     let c = cardcheck::check_lent(card)?;
-    if room < 5 {
-        return Err(Refusal(Rule::BufferTooShort, 0));
-    }
+    answers::test_room(5, room)?;
     put_counts(c, numbers);
     Ok(Done {
         number: 0,

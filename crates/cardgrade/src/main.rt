@@ -10,7 +10,6 @@
 ghost use Rattle.std.specs.Prelude.{◌≡◌, ◌≤◌, length, take, OnOk, IfSome};
 ghost use Rattle.std.specs.Io.KnownBytes.{Appends};
 ghost use Rattle.report.specs.Report.{max_input, text_of};
-ghost use Rattle.textlines.specs.Text.{max_text};
 ghost use Rattle.cardinput.specs.Known.{told_in};
 ghost use Rattle.cardgrade.specs.declared.Failure.TheVariants.{Unread};
 ghost use Rattle.cardgrade.specs.Whole.{CameAll, FirstOf};
@@ -38,17 +37,11 @@ impl From<Unread> for Failure {
     }
 }
 
-// Room for all the bytes that can decide, and for the longest text.
-fn input_room() -> [u8; MAX_INPUT]
-    ensures { max_input ≡ length result }
+// Room for N bytes.
+fn room<const N: usize>() -> [u8; N]
+    ensures { N ≡ length result }
 {
-    [0u8; MAX_INPUT]
-}
-
-fn text_room() -> [u8; MAX_TEXT]
-    ensures { max_text ≡ length result }
-{
-    [0u8; MAX_TEXT]
+    [0; N]
 }
 
 // Reads the word count, and then the bytes that it makes wanted.
@@ -71,7 +64,7 @@ fn print_report<W: Write>(writer: &mut W, input: &[u8], source: Source) -> io::R
     ensures { OnOk result (Appends (W.contents writer.old) (W.contents writer.new) (text_of (take source.handed input.now))) }
 {
     let n = source.handed();
-    let mut text = text_room();
+    let mut text = room::<MAX_TEXT>();
     let long = report::report(&input[..n], &mut text);
     writer.write_all(&text[..long])
 }
@@ -80,7 +73,7 @@ fn print_report<W: Write>(writer: &mut W, input: &[u8], source: Source) -> io::R
 fn grade<R: Read, W: Write>(reader: &mut R, writer: &mut W) -> Result<(), Failure>
     ensures { OnOk result (IfSome (R.remaining reader.old) (λ w. Appends (W.contents writer.old) (W.contents writer.new) (text_of w))) }
 {
-    let mut input = input_room();
+    let mut input = room::<MAX_INPUT>();
     let source = read_input(reader, &mut input)?;
     print_report(writer, &input, source).map_err(Failure::Unwritten)
 }

@@ -10,7 +10,9 @@ ghost use Rattle.grade.specs.Calls.{grade_outcome};
 ghost use Rattle.join.specs.Calls.{join_outcome};
 ghost use Rattle.gates.specs.Calls.{to_card_outcome};
 
-use answers::Lent;
+use answers::{MAX_FAULTS, MAX_GRAPHS, MAX_NODES, MAX_WORDS};
+use hostfaults::FAULTS_ROOM;
+use inbytes::{CARD_ROOM, VECTOR_ROOM, WIRES_ROOM};
 use testvectors::VectorList;
 
 // Check: the numbers of inputs, graphs, nodes, observable graphs and faults, in a buffer of at least five words.
@@ -18,7 +20,7 @@ use testvectors::VectorList;
 pub extern "C" fn card_check(card: &[u8], numbers: &mut [u8]) -> u64
     ensures { InBytes (check_outcome (of_bytes card.now)) result numbers.old numbers.new }
 {
-    let mut ws = inbytes::card_room();
+    let mut ws = lists::filled::<CARD_ROOM>(0);
     let mut out = [0u32; 5];
     let card = inbytes::read(card, &mut ws);
     let end = cardcounts::check_counts(card, numbers.len() / 4, &mut out);
@@ -46,15 +48,11 @@ pub extern "C" fn card_fault_values(
     ensures { InBytes (fault_outcome (of_bytes card.now) (of_bytes vector.now) (of_bytes faults.now))
         result values.old values.new }
 {
-    let mut ws = inbytes::card_room();
-    let mut x = inbytes::vector_room();
-    let mut numbers = hostfaults::faults_room();
-    let mut out = layout::graph_table();
-    let m = hostfaults::read_faults(faults, &mut numbers);
-    let list = Lent {
-        words: &numbers[..m],
-        extra: faults.len() % 4,
-    };
+    let mut ws = lists::filled::<CARD_ROOM>(0);
+    let mut x = lists::filled::<VECTOR_ROOM>(0);
+    let mut numbers = lists::filled::<FAULTS_ROOM>(0);
+    let mut out = lists::filled::<MAX_GRAPHS>(0);
+    let list = hostfaults::read_faults(faults, &mut numbers);
     let card = inbytes::read(card, &mut ws);
     let vector = inbytes::read(vector, &mut x);
     let end = plain::fault_values_with(card, vector, list, values.len() / 4, &mut out);
@@ -67,9 +65,9 @@ pub extern "C" fn card_change_list(card: &[u8], vector: &[u8], graph: u32, list:
     ensures { InBytes (change_outcome (of_bytes card.now) (of_bytes vector.now) graph)
         result list.old list.new }
 {
-    let mut ws = inbytes::card_room();
-    let mut x = inbytes::vector_room();
-    let mut out = layout::graph_table();
+    let mut ws = lists::filled::<CARD_ROOM>(0);
+    let mut x = lists::filled::<VECTOR_ROOM>(0);
+    let mut out = lists::filled::<MAX_GRAPHS>(0);
     let card = inbytes::read(card, &mut ws);
     let vector = inbytes::read(vector, &mut x);
     let end = changes::change_list_with(card, vector, graph, list.len() / 4, &mut out);
@@ -82,9 +80,9 @@ pub extern "C" fn card_critical_nodes(card: &[u8], vector: &[u8], nodes: &mut [u
     ensures { InBytes (critical_outcome (of_bytes card.now) (of_bytes vector.now))
         result nodes.old nodes.new }
 {
-    let mut ws = inbytes::card_room();
-    let mut x = inbytes::vector_room();
-    let mut out = layout::node_table();
+    let mut ws = lists::filled::<CARD_ROOM>(0);
+    let mut x = lists::filled::<VECTOR_ROOM>(0);
+    let mut out = lists::filled::<MAX_NODES>(0);
     let card = inbytes::read(card, &mut ws);
     let vector = inbytes::read(vector, &mut x);
     let end = changes::critical_nodes_with(card, vector, nodes.len() / 4, &mut out);
@@ -103,9 +101,9 @@ pub extern "C" fn card_grade(
     ensures { InBytesBoth (grade_outcome (of_bytes card.now) (of_bytes vectors.now))
         result marks.old tallies.old marks.new tallies.new }
 {
-    let mut ws = inbytes::card_room();
-    let mut out = layout::fault_table();
-    let mut more = layout::fault_table();
+    let mut ws = lists::filled::<CARD_ROOM>(0);
+    let mut out = lists::filled::<MAX_FAULTS>(0);
+    let mut more = lists::filled::<MAX_FAULTS>(0);
     let card = inbytes::read(card, &mut ws);
     let end = grade::grade_with(
         card,
@@ -124,10 +122,10 @@ pub extern "C" fn card_join(a: &[u8], b: &[u8], wires: &[u8], card: &mut [u8]) -
     ensures { InBytes (join_outcome (of_bytes a.now) (of_bytes b.now) (of_bytes wires.now))
         result card.old card.new }
 {
-    let mut wa = inbytes::card_room();
-    let mut wb = inbytes::card_room();
-    let mut ws = inbytes::wires_room();
-    let mut out = layout::card_table();
+    let mut wa = lists::filled::<CARD_ROOM>(0);
+    let mut wb = lists::filled::<CARD_ROOM>(0);
+    let mut ws = lists::filled::<WIRES_ROOM>(0);
+    let mut out = lists::filled::<MAX_WORDS>(0);
     let a = inbytes::read(a, &mut wa);
     let b = inbytes::read(b, &mut wb);
     let wires = inbytes::read(wires, &mut ws);
@@ -140,8 +138,8 @@ pub extern "C" fn card_join(a: &[u8], b: &[u8], wires: &[u8], card: &mut [u8]) -
 pub extern "C" fn card_from_gates(gates: &[u8], card: &mut [u8]) -> u64
     ensures { InBytes (to_card_outcome (of_bytes gates.now)) result card.old card.new }
 {
-    let mut ws = inbytes::card_room();
-    let mut out = layout::card_table();
+    let mut ws = lists::filled::<CARD_ROOM>(0);
+    let mut out = lists::filled::<MAX_WORDS>(0);
     let gates = inbytes::read(gates, &mut ws);
     let end = gates::to_card_with(gates, card.len() / 4, &mut out);
     inbytes::answer(end, &out, card)

@@ -6,6 +6,7 @@ use mathlib.Core.Bool.{Bool, true, false, not, ◌||◌}
 use native.Mathlib.Omega.{arith}
 use lib.ListN.{length, get_or}
 use lib.Dec.{eqb}
+use Rattle.std.specs.Int.{from_bool}
 use borrow.Author.Tests.{eq-eqb, eqb-true, lt-ltb, le-ltb}
 use Rattle.lists.specs.Counting.{choose, count}
 use Rattle.lists.proofs.Counting.{count_same, count-pairs, count-alone}
@@ -49,6 +50,11 @@ module _ {ws : List ℕ} {c : Counts} (a : Shape ws c) where
         one-node ws h r k j i n (count-alone (λ p. eqb (read_by ws c p) g) c.nodes (first ws h + k) (first ws r + j) e (node-below a h k l i) (node-below a r j m n)
         (eq-eqb _ g (read-in h l k i ∙ q)) (eq-eqb _ g (read-in r m j n ∙ z)));
   }
+
+-- a flag as a word
+pub flag-word : (b : Bool) → from_bool b ≡ choose b 1 0
+flag-word true = refl
+flag-word false = refl
 
 -- a node and a graph as sites of the grade
 pub node-graded : (ws : List ℕ) (c : Counts) (p : ℕ) → p < c.nodes → 1 ≡ choose (site_in_grade ws c p) 1 0

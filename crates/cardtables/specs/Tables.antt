@@ -1,6 +1,6 @@
 -- The tables of an accepted card, made once: which graphs read a graph, its only reader, and what counts in the grade. No contract of a call cites these.
 -- Assumes nothing.
-use Rattle.std.specs.Prelude.{ℕ, zero, suc, ◌+◌, ◌*◌, ◌<◌, ◌≤◌, ◌≡◌, List, Bool, ◌&&◌, length, get_or, ltb, eqb}
+use Rattle.std.specs.Prelude.{ℕ, zero, suc, ◌+◌, ◌-◌, ◌*◌, ◌<◌, ◌≤◌, ◌≡◌, List, Bool, cond, ◌&&◌, Option, Some, None, length, get_or, ltb, eqb}
 use Rattle.lists.specs.Counting.{choose}
 use Rattle.bitset.specs.Members.{member}
 use Rattle.answers.specs.Limits.{max_graphs, max_nodes, max_sites}
@@ -44,6 +44,10 @@ only_of p (suc m) = choose (p m) (choose (eqb (only_of p m) 0) (m + 1) several_r
 
 abbrev pub is_only : ℕ → Bool
 is_only w = ltb 0 w && ltb w several_readers
+
+-- the number that such a word tells, or none
+abbrev pub only_in : ℕ → Option ℕ
+only_in w = cond (is_only w) (Some (w - 1)) None
 
 -- of the nodes of graph h: node j reads graph q j
 abbrev pub ReadIn : List ℕ → (ℕ → ℕ) → ℕ → Type 0

@@ -1,7 +1,7 @@
 // The tables of an accepted card, made once: which graphs read each graph, its only reader, and which faults count in the grade.
 #![tactic(auto)]
 
-ghost use Rattle.std.specs.Prelude.{◌≡◌, List, not, ◌||◌, ℕ, ◌+◌, ◌*◌, ◌≤◌, ◌<◌, length, get_or, eqb};
+ghost use Rattle.std.specs.Prelude.{◌≡◌, List, not, ◌||◌, ℕ, ◌+◌, ◌*◌, ◌≤◌, ◌<◌, length, get_or};
 ghost use Rattle.lists.specs.Counting.{choose};
 ghost use Rattle.answers.specs.Limits.{max_graphs, max_nodes, max_sites};
 ghost use Rattle.word32.specs.Fields.{read_graph};
@@ -9,12 +9,13 @@ ghost use Rattle.layout.specs.Layout.{first, size, observable, reads};
 ghost use Rattle.layout.specs.Shape.{Shape};
 ghost use Rattle.layout.specs.Tables.{Ready, Walkable};
 ghost use Rattle.cardtables.specs.Stems.{read_by, site_in_grade, total};
-ghost use Rattle.cardtables.specs.Tables.{sole_of, readers_of, grade_of, grade_from, tables_length, several_readers, is_only, ReadIn, Noted, Tabled};
+ghost use Rattle.cardtables.specs.Tables.{sole_of, readers_of, grade_of, grade_from, tables_length, several_readers, is_only, only_in, ReadIn, Noted, Tabled};
 
 use answers::{Counts, MAX_GRAPHS, MAX_NODES, MAX_SITES};
+use layout::FIRSTS;
 
 // The tables of a card, one after the other, each at a multiple of 32 words: the first node of each graph; where one node alone reads it, that node's number
-// plus 1; a set of 32 words that has every graph which reads it; and for each site 1 where its faults count in the grade, else 0.
+// plus 1, else 0 or `SEVERAL`; a set of 32 words that has every graph which reads it; and for each site 1 where its faults count in the grade, else 0.
 pub type Tables = [u32; TABLES];
 
 const SOLE: usize = MAX_GRAPHS + 32;
@@ -28,29 +29,16 @@ const TABLES: usize = GRADE + MAX_SITES;
 // What a word for an only reader is where several nodes read the graph.
 const SEVERAL: u32 = MAX_NODES as u32 + 1;
 
-// Room for the tables of any card, with no reader in them.
-fn empty_tables() -> Tables
-    ensures { (tables_length ≡ length result) × ((i : ℕ) → i < tables_length → get_or result i 0 ≡ 0) }
-{
-    [0u32; TABLES]
-}
-
-// The number of the only node that reads graph r, plus 1; 0 where none does, and `SEVERAL`, which is above all of these, where several do.
-pub fn sole_reader(tables: &[u32], r: usize) -> u32
+// The only node that reads graph r, or none where no node does, or several do.
+pub fn only_reader(tables: &[u32], r: usize) -> Option<usize>
     requires { (r < max_graphs) × (grade_from ≤ length tables.now) }
-    ensures { result ≡ get_or tables.now (sole_of r) 0 }
+    ensures { result ≡ only_in (get_or tables.now (sole_of r) 0) }
 {
-    lists::get(tables, SOLE + r)
-}
-
-// Whether such a number tells an only node.
-pub fn is_sole(p: u32) -> bool
-    ensures { result ≡ is_only p }
-{
-    if p == 0 {
-        return false;
+    let word = lists::get(tables, SOLE + r);
+    if 0 < word && word < SEVERAL {
+        return Some(word as usize - 1);
     }
-    p < SEVERAL
+    None
 }
 
 // Where the set of graph r's readers stands in the tables.
@@ -81,7 +69,7 @@ fn note_node(card: &[u32], h: usize, j: usize, tables: &mut [u32])
 {
     let read = layout::graph_read(card, h, j);
     bitset::put(tables, readers_of(read), h);
-    let had = sole_reader(tables, read);
+    let had = lists::get(tables, SOLE + read);
     lists::put(tables, SOLE + read, sole_with(had, j));
 }
 
@@ -116,7 +104,7 @@ fn has_stem(card: &[u32], tables: &[u32], g: usize) -> bool
     if layout::is_observable(card, tables, g) {
         return true;
     }
-    !is_sole(sole_reader(tables, g))
+    only_reader(tables, g).is_none()
 }
 
 // The word of site p, a node or a graph: 1 where its faults count in the grade, else 0.
@@ -125,13 +113,7 @@ fn grade_word(card: &[u32], c: Counts, tables: &[u32], p: usize) -> u32
         × (p < c.nodes + c.graphs) }
     ensures { result ≡ choose (site_in_grade card.now c p) 1 0 }
 {
-    if p < c.nodes {
-        return 1;
-    }
-    if has_stem(card, tables, p - c.nodes) {
-        return 1;
-    }
-    0
+    u32::from(p < c.nodes || has_stem(card, tables, p - c.nodes))
 }
 
 // The words of all sites.
@@ -167,9 +149,9 @@ pub fn make_tables(card: &[u32], c: Counts) -> Tables
     ensures { Tabled card.now c result }
 {
     // twice, since the tables cannot be read for the first nodes while readers are put into them
-    let mut firsts = layout::first_table();
+    let mut firsts = lists::filled::<FIRSTS>(0);
     layout::first_nodes(card, c, &mut firsts);
-    let mut tables = empty_tables();
+    let mut tables: Tables = lists::filled(0);
     note_readers(card, c, &firsts, &mut tables);
     layout::first_nodes(card, c, &mut tables);
     grade_sites(card, c, &mut tables);

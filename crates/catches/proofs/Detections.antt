@@ -1,8 +1,9 @@
 -- What the buffer tells of a node, whichever graph it stands in, and so of the graph that this node alone reads. Assumes nothing.
 use Prim.Native.Nat.{ℕ, ◌+◌, ◌-◌, ◌<◌}
-use mathlib.Core.Path.{◌≡◌, sym, ap, ◌∙◌}
+use mathlib.Core.Path.{◌≡◌, refl, sym, ap, ◌∙◌}
 use mathlib.Core.List.{List}
-use mathlib.Core.Bool.{true, false}
+use mathlib.Core.Bool.{Bool, true, false}
+use Rattle.std.specs.Prelude.{Option, Some, None, cond}
 use mathlib.Mathlib.Data.Bool.Basic.{and_elim_left, and_elim_right}
 use native.Mathlib.Omega.{arith}
 use lib.ListN.{get_or}
@@ -11,7 +12,7 @@ use borrow.Author.Tests.{ltb-true}
 use Rattle.answers.specs.declared.Counts.{Counts}
 use Rattle.layout.specs.Layout.{first, observable, stands_in}
 use Rattle.layout.specs.Shape.{Shape}
-use Rattle.cardtables.specs.Tables.{sole_of, is_only, Tabled}
+use Rattle.cardtables.specs.Tables.{sole_of, is_only, only_in, Tabled}
 use Rattle.layout.proofs.Firsts.{node-below}
 use Rattle.cardtables.proofs.Stems.{sole-is}
 use Rattle.layout.proofs.Stands.{owner}
@@ -30,8 +31,15 @@ detections-node {ws} {c} a t j h =
     rw e at (t.nodes g (j - first ws g) (omega arith) o.0 (omega (arith, o.1, o.2)))
 
 -- a word of the tables that tells an only reader
-pub sole-both : (p : ℕ) → is_only p ≡ true → (0 < p) × (p < 4097)
+sole-both : (p : ℕ) → is_only p ≡ true → (0 < p) × (p < 4097)
 sole-both p e = (ltb-true 0 p (and_elim_left (ltb 0 p) (ltb p 4097) e), ltb-true p 4097 (and_elim_right (ltb 0 p) (ltb p 4097) e))
+
+pub only-told : (p : ℕ) {j : ℕ} → Some j ≡ only_in p → (0 < p) × (p < 4097) × (j ≡ p - 1)
+only-told p {j} e = told (is_only p) refl e
+  where
+    told : (b : Bool) → is_only p ≡ b → Some j ≡ cond b (Some (p - 1)) None → (0 < p) × (p < 4097) × (j ≡ p - 1)
+    told true q z = let s = sole-both p q in (s.0, s.1, cc)
+    told false q z = absurd cc
 
 -- THE ONLY READER of graph g, whose number plus 1 the tables give as p, tells whether g is critical
 pub sole-tells : {ws t : List ℕ} {c : Counts} → Tabled ws c t → {x xs : List ℕ} {g p n : ℕ} → g < c.graphs → observable ws g ≡ false → p ≡ get_or t (sole_of g) 0 → (0 < p) × (p < 4097)

@@ -6,6 +6,8 @@ use mathlib.Core.Bool.{Bool, true, false, not}
 use native.Mathlib.Omega.{arith}
 use lib.ListN.{length, get_or, set}
 use lib.Dec.{eqb}
+use Rattle.std.specs.Prelude.{Option, Some, None, cond}
+use Rattle.std.specs.Option.{unwrap_or}
 use Rattle.lists.specs.Counting.{choose}
 use Rattle.lists.proofs.Tests.{and_none}
 use Rattle.word32.specs.Fields.{exit_of}
@@ -30,6 +32,11 @@ use Rattle.catches.specs.Words.{Along}
 use Rattle.catches.proofs.ActivePath.{path-active, path-onward, path-idle, path-reached}
 use Rattle.catches.proofs.Caught.{node-caught, graph-caught}
 use Rattle.catches.proofs.Words.{along-more, along-quiet}
+
+-- what is caught, as a word: 2 where nothing is
+pub caught-word : (b : Bool) (n : ℕ) {o : Option ℕ} {v : ℕ} → o ≡ cond b (Some n) None → v ≡ unwrap_or o 2 → v ≡ choose b n 2
+caught-word true n e q = q ∙ ap (λ (o : Option ℕ). unwrap_or o 2) e
+caught-word false n e q = q ∙ ap (λ (o : Option ℕ). unwrap_or o 2) e
 
 -- good values are bits
 pub swept-bits : {ws x values : List ℕ} {c : Counts} → Shape ws c → Swept ws c x c.graphs values → Bits c values

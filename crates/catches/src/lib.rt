@@ -1,8 +1,7 @@
 // What one vector catches, by the marking rules: for each site the value at which it is stuck in the fault that is caught there, or 2.
 #![tactic(auto)]
 
-ghost use Rattle.std.specs.Prelude.{◌≡◌, List, true, not, ℕ, ◌+◌, ◌-◌, ◌*◌, ◌≤◌, ◌<◌, length, get_or, eqb};
-ghost use Rattle.lists.specs.Counting.{choose};
+ghost use Rattle.std.specs.Prelude.{◌≡◌, List, true, not, cond, Some, None, ℕ, ◌+◌, ◌-◌, ◌*◌, ◌≤◌, ◌<◌, length, get_or, eqb};
 ghost use Rattle.word32.specs.Fields.{exit_of};
 ghost use Rattle.layout.specs.Layout.{size};
 ghost use Rattle.layout.specs.Tables.{Ready};
@@ -20,19 +19,30 @@ ghost use Rattle.catches.specs.Detections.{Detections, Room};
 
 use answers::Counts;
 
-// What is caught at node j, of graph g, where the node is active and the graph critical: rules 4 and 5. Its decision is d, and its graph's first node `first`.
-fn caught_there(card: &[u32], values: &[u32], g: usize, first: usize, j: usize, d: u32) -> u32
+// The word of a site where nothing is caught, above both values at which it can be stuck.
+const NOTHING: u32 = 2;
+
+// What is caught at node j, of graph g, if anything is, where the node is active and the graph critical: rules 4 and 5. Its decision is d, and its graph's
+// first node `first`.
+fn caught_there(
+    card: &[u32],
+    values: &[u32],
+    g: usize,
+    first: usize,
+    j: usize,
+    d: u32,
+) -> Option<u32>
     requires { (g + 2 + 2 * j < length card.now) × (d < 2)
         × ((b : ℕ) → 2 ≤ exit_of (get_or card.now (g + 2 + 2 * j) 0) b → first + (exit_of (get_or card.now (g + 2 + 2 * j) 0) b - 2) < length values.now) }
-    ensures { result ≡ choose (not (eqb (follow (λ l. get_or values.now (first + l) 0) (exit_of (get_or card.now (g + 2 + 2 * j) 0) 0))
-        (follow (λ l. get_or values.now (first + l) 0) (exit_of (get_or card.now (g + 2 + 2 * j) 0) 1)))) (1 - d) 2 }
+    ensures { result ≡ cond (not (eqb (follow (λ l. get_or values.now (first + l) 0) (exit_of (get_or card.now (g + 2 + 2 * j) 0) 0))
+        (follow (λ l. get_or values.now (first + l) 0) (exit_of (get_or card.now (g + 2 + 2 * j) 0) 1)))) (Some (1 - d)) None }
 {
     let v0 = sweep::exit_value(values, first, layout::exit_at(card, g, j, 0));
     let v1 = sweep::exit_value(values, first, layout::exit_at(card, g, j, 1));
     if v0 == v1 {
-        return 2;
+        return None;
     }
-    1 - d
+    Some(1 - d)
 }
 
 // The active path of graph g, which is critical and whose words are 2: the nodes that the path meets get what is caught there.
@@ -49,7 +59,7 @@ fn catch_path(card: &[u32], c: Counts, tables: &[u32], values: &[u32], g: usize,
         let d = layout::decision(card, g, j, values, c.nodes);
         let v = caught_there(card, values, g, first, j, d);
         let e = layout::exit_at(card, g, j, d);
-        lists::put(caught, j, v);
+        lists::put(caught, j, v.unwrap_or(NOTHING));
         if e < 2 {
             return;
         }
@@ -64,7 +74,7 @@ fn clear_nodes(tables: &[u32], g: usize, caught: &mut [u32])
 {
     let first = layout::first_node(tables, g);
     let next = layout::first_node(tables, g + 1);
-    caught[first..next].fill(2);
+    caught[first..next].fill(NOTHING);
 }
 
 // All nodes of graph g; `alters` says whether the graph is critical. Where it is not, nothing is caught at them; an input has none.
@@ -91,15 +101,15 @@ fn catch_nodes(
     catch_path(card, c, tables, values, g, caught);
 }
 
-// What is caught at a graph of value v.
-fn caught_whole(v: u32, alters: bool) -> u32
+// What is caught at a graph of value v, if it is critical.
+fn caught_whole(v: u32, alters: bool) -> Option<u32>
     requires { v < 2 }
-    ensures { result ≡ choose alters (1 - v) 2 }
+    ensures { result ≡ cond alters (Some (1 - v)) None }
 {
     if alters {
-        return 1 - v;
+        return Some(1 - v);
     }
-    2
+    None
 }
 
 // Whether graph g is critical, where the graphs above it are done. Where it is not observable and one node alone reads it, what is caught there tells.
@@ -120,11 +130,10 @@ fn is_altering(
     if layout::is_observable(card, tables, g) {
         return true;
     }
-    let sole = cardtables::sole_reader(tables, g);
-    if cardtables::is_sole(sole) {
-        return lists::get(caught, sole as usize - 1) < 2;
+    match cardtables::only_reader(tables, g) {
+        Some(j) => lists::get(caught, j) < 2,
+        None => critical::is_critical(card, c, tables, values, g, walk),
     }
-    critical::is_critical(card, c, tables, values, g, walk)
 }
 
 // Graph g and its nodes, where the graphs above it are done. The buffer of walks has the good values before and after.
@@ -145,7 +154,8 @@ fn catch_graph(
     let alters = is_altering(card, c, tables, values, g, walk, caught);
     catch_nodes(card, c, tables, values, g, alters, caught);
     let v = lists::get(values, c.nodes + g);
-    lists::put(caught, c.nodes + g, caught_whole(v, alters));
+    let whole = caught_whole(v, alters);
+    lists::put(caught, c.nodes + g, whole.unwrap_or(NOTHING));
 }
 
 // What one vector catches, at all graphs and their nodes: from the last graph down, so that what is caught at a graph's readers is known.

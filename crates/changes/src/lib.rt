@@ -14,7 +14,9 @@ ghost use Rattle.answers.specs.Ends.{EndsAs};
 ghost use Rattle.changes.specs.Calls.{change_tests, change_outcome, critical_tests, critical_outcome};
 ghost use Rattle.changes.specs.Appended.{Appended};
 
-use answers::{Counts, Done, Lent, Refusal, Rule};
+use answers::{Counts, Done, Lent, MAX_GRAPHS, MAX_SITES, Refusal, Rule};
+use critical::Walk;
+use layout::FIRSTS;
 
 // Number h follows the n numbers at the front of a list, if it is to.
 fn append(list: &mut [u32], n: usize, h: usize, differs: bool) -> usize
@@ -58,11 +60,11 @@ pub fn work_out_changes(
     ensures { (result ≡ count (changes card.now c vector.now g) c.graphs)
         × (list.new ≡ front (chosen (changes card.now c vector.now g) c.graphs) list.old) }
 {
-    let mut firsts = layout::first_table();
+    let mut firsts = lists::filled::<FIRSTS>(0);
     layout::first_nodes(card, c, &mut firsts);
-    let mut values = layout::site_table();
+    let mut values = lists::filled::<MAX_SITES>(0);
     sweep::sweep(card, c, &firsts, vector, &mut values);
-    let mut flips = layout::graph_table();
+    let mut flips = lists::filled::<MAX_GRAPHS>(0);
     change::copy_values(c, &values, &mut flips);
     change::change(card, c, &firsts, g, &mut flips);
     list_changes(c, &values, &flips, list)
@@ -75,10 +77,7 @@ pub fn test_change(c: Counts, graph: u32, room: usize) -> Result<(), Refusal>
     if c.graphs <= graph as usize {
         return Err(Refusal(Rule::NumberTooHigh, 0));
     }
-    if room < c.graphs {
-        return Err(Refusal(Rule::BufferTooShort, 0));
-    }
-    Ok(())
+    answers::test_room(c.graphs, room)
 }
 
 // The change list of a graph: its length, and the numbers rising in the front of `list`, for a buffer of `room` words.
@@ -117,23 +116,13 @@ pub fn change_list(
     change_list_with(card, vector, graph, list.len(), list).map(|done| done.number)
 }
 
-// 1 where a fault is caught at a site, else 0.
-fn is_caught(caught: u32) -> u32
-    ensures { result ≡ choose (ltb caught 2) 1 0 }
-{
-    if caught < 2 {
-        return 1;
-    }
-    0
-}
-
-// The same for the first n sites, into a buffer.
+// For each of the first n sites 1 where a fault is caught there, else 0; into a buffer.
 fn flag_sites(caught: &[u32], n: usize, nodes: &mut [u32])
     requires { (n ≤ length caught.now) × (n ≤ length nodes.old) }
     ensures { nodes.new ≡ over n (λ j. choose (ltb (get_or caught.now j 0) 2) 1 0) nodes.old }
 {
     for (j, node) in nodes[..n].iter_mut().enumerate() {
-        *node = is_caught(lists::get(caught, j));
+        *node = u32::from(lists::get(caught, j) < 2);
     }
 }
 
@@ -143,9 +132,9 @@ pub fn work_out_critical(card: &[u32], c: Counts, vector: &[u32], nodes: &mut [u
     ensures { nodes.new ≡ over c.nodes (λ j. choose (critical_at card.now c vector.now j) 1 0) nodes.old }
 {
     let tables = cardtables::make_tables(card, c);
-    let mut values = layout::site_table();
-    let mut walk = critical::walk_room();
-    let mut caught = layout::site_table();
+    let mut values = lists::filled::<MAX_SITES>(0);
+    let mut walk: Walk = lists::filled(0);
+    let mut caught = lists::filled::<MAX_SITES>(0);
     catches::catch_vector(
         card,
         c,
@@ -159,13 +148,11 @@ pub fn work_out_critical(card: &[u32], c: Counts, vector: &[u32], nodes: &mut [u
 }
 
 // The tests of critical nodes after the form of their vector, for a buffer of `room` words: the room alone.
+#[tactic(auto, unfolding(crate::specs::Calls::critical_tests))]
 pub fn test_critical(c: Counts, room: usize) -> Result<(), Refusal>
     ensures { result ≡ first_broken (critical_tests room c) }
 {
-    if room < c.nodes {
-        return Err(Refusal(Rule::BufferTooShort, 0));
-    }
-    Ok(())
+    answers::test_room(c.nodes, room)
 }
 
 // Critical nodes: one word for each node, 1 where forcing its other exit alters an observable graph, else 0; for a buffer of `room` words.

@@ -26,13 +26,6 @@ const DUE: usize = LIST + MAX_GRAPHS;
 
 const WALK: usize = DUE + 32;
 
-// Room for a walk.
-pub fn walk_room() -> Walk
-    ensures { walk_length ≡ length result }
-{
-    [0u32; WALK]
-}
-
 // The readers of graph h become due.
 fn note_due(c: Counts, tables: &[u32], h: usize, walk: &mut [u32])
     requires { (h < max_graphs) × (c.graphs ≤ max_graphs) × (grade_from ≤ length tables.now) × (walk_length ≤ length walk.old) }

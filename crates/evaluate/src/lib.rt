@@ -2,7 +2,7 @@
 // that it reads, and that for its entrance's; each found value is saved in a lent buffer, a word for each site.
 #![tactic(auto)]
 
-ghost use Rattle.std.specs.Prelude.{◌≡◌, ℕ, ◌≤◌, ◌<◌, length, get_or};
+ghost use Rattle.std.specs.Prelude.{◌≡◌, ◌≤◌, ◌<◌, length};
 ghost use Rattle.lists.specs.Tables.{over};
 ghost use Rattle.layout.specs.Layout.{size};
 ghost use Rattle.layout.specs.Shape.{Shape};
@@ -12,10 +12,10 @@ ghost use Rattle.testvectors.specs.Parts.{Wide};
 ghost use Rattle.value.specs.Settings.{faulty};
 ghost use Rattle.value.specs.Values.{value};
 ghost use Rattle.value.specs.Run.{run};
-ghost use Rattle.answers.specs.Limits.{max_sites};
 ghost use Rattle.evaluate.specs.Saved.{Saved, FoundNode, FoundGraph};
 
 use answers::{Counts, MAX_SITES};
+use layout::FIRSTS;
 
 // The value of local node k of graph g, which then stands at the node's site.
 #[cycle(graph_value_node_value)]
@@ -80,21 +80,15 @@ fn graph_value(
     v
 }
 
-// Room for the values of all sites of any card, none of them known: a value is 0 or 1.
-fn unknown() -> [u32; MAX_SITES]
-    ensures { (max_sites ≡ length result) × ((i : ℕ) → i < max_sites → get_or result i 0 ≡ 2) }
-{
-    [2u32; MAX_SITES]
-}
-
 // The values of all graphs, with the faults of a list in.
 pub fn work_out(card: &[u32], c: Counts, vector: &[u32], faults: &[u32], values: &mut [u32])
     requires { Shape card.now c × (width c.inputs ≤ length vector.now) × (c.graphs ≤ length values.old) }
     ensures { values.new ≡ over c.graphs (value card.now c (faulty faults.now) vector.now) values.old }
 {
-    let mut firsts = layout::first_table();
+    let mut firsts = lists::filled::<FIRSTS>(0);
     layout::first_nodes(card, c, &mut firsts);
-    let mut saved = unknown();
+    // no value is known yet: one is 0 or 1
+    let mut saved = lists::filled::<MAX_SITES>(2);
     for (g, v) in values[..c.graphs].iter_mut().enumerate() {
         *v = graph_value(card, c, &firsts, vector, faults, g, &mut saved);
     }

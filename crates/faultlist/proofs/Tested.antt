@@ -12,7 +12,7 @@ use Rattle.answers.specs.declared.Counts.{Counts}
 use Rattle.answers.specs.declared.Rule.TheVariants.{NumberTooHigh, FaultListForm, BufferTooShort}
 use Rattle.std.specs.Prelude.{Ok, Err}
 use Rattle.answers.specs.Answers.{refused}
-use Rattle.answers.specs.Tests.{first_broken}
+use Rattle.answers.specs.Tests.{first_broken, room_test}
 use Rattle.answers.proofs.Tests.{all-passed}
 use Rattle.faultlist.specs.Faults.{too_high, at_site, site_twice, fault_tests}
 
@@ -58,9 +58,9 @@ module _ (extra : ℕ) (fs : List ℕ) (room : ℕ) (c : Counts) where
         twice-told e = rw (low, le-ltb 0 extra even, le-ltb 8 (length fs) few, e)
 
         module _ (apart : site_twice fs ≡ false) where
-          pub short-told : room < c.graphs → Err (refused BufferTooShort 0) ≡ first_broken (fault_tests extra fs room c)
+          pub room-told : first_broken (room_test c.graphs room) ≡ first_broken (fault_tests extra fs room c)
           unfolding fault_tests
-          short-told h = rw (low, le-ltb 0 extra even, le-ltb 8 (length fs) few, apart, lt-ltb room c.graphs h)
+          room-told = rw (low, le-ltb 0 extra even, le-ltb 8 (length fs) few, apart)
 
           pub none_told : c.graphs ≤ room → (Ok tt) ≡ first_broken (fault_tests extra fs room c)
           unfolding fault_tests

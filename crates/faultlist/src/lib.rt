@@ -50,8 +50,5 @@ pub fn test_faults(c: Counts, faults: Lent<'_>, room: usize) -> Result<(), Refus
     if site_twice(faults.words) {
         return Err(Refusal(Rule::FaultListForm, 0));
     }
-    if room < c.graphs {
-        return Err(Refusal(Rule::BufferTooShort, 0));
-    }
-    Ok(())
+    answers::test_room(c.graphs, room)
 }

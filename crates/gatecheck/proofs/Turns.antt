@@ -9,7 +9,6 @@ use lib.Dec.{eqb}
 use borrow.Author.Tests.{le-leb, lt-leb, lt-ltb, le-ltb}
 use Rattle.lists.proofs.Tests.{choose-bit}
 use Rattle.word32.specs.Fields.{kind, lead_count}
-use Rattle.answers.specs.declared.Rule.{Rule}
 use Rattle.answers.specs.declared.Rule.TheVariants.{CardTooLong}
 use Rattle.answers.specs.declared.Counts.{Counts}
 use Rattle.std.specs.Prelude.{Ok, Err}

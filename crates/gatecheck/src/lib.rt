@@ -2,27 +2,25 @@
 #![tactic(auto)]
 
 ghost use Rattle.std.specs.Prelude.{◌≡◌, ◌+◌, ◌≤◌, ◌<◌, length};
+ghost use Rattle.word32.specs.Fields.{gate_function};
 ghost use Rattle.answers.specs.Limits.{max_graphs, max_nodes, max_words};
 ghost use Rattle.answers.specs.Tests.{first_broken};
 ghost use Rattle.form.specs.Check.{counts};
 ghost use Rattle.gatelist.specs.Form.{gate_list_length, wrong_gate, gate_tests, header_verdict, lead_verdict, leads_verdict, line_verdict, rest, gates_checked_with};
 
-use answers::{Counts, Lent, MAX_GRAPHS, MAX_NODES, MAX_WORDS, Refusal, Rule};
+use answers::{Counts, Lent, MAX_NODES, MAX_WORDS, Refusal, Rule};
+use gatelist::Function;
+use word32::WordKind;
 
-// Whether no gate has function f with n leads.
-fn is_wrong_gate(f: u32, n: usize) -> bool
-    ensures { result ≡ wrong_gate f n }
+// Whether no gate has the function in the header w with n leads.
+fn is_wrong_gate(w: u32, n: usize) -> bool
+    ensures { result ≡ wrong_gate (gate_function w) n }
 {
-    if 5 < f {
-        return true;
+    match gatelist::function_of(w) {
+        Some(Function::Not | Function::Buf) => n != 1,
+        Some(_) => n == 0,
+        None => true,
     }
-    if n == 0 {
-        return true;
-    }
-    if f < 4 {
-        return false;
-    }
-    n != 1
 }
 
 // A gate's header.
@@ -40,24 +38,18 @@ fn check_gate(w: u32, at: usize, c: Counts) -> Result<(), Refusal>
     if MAX_NODES < c.nodes + n {
         return Err(Refusal(Rule::NodeCount, at));
     }
-    if is_wrong_gate(word32::gate_function(w), n) {
+    if is_wrong_gate(w, n) {
         return Err(Refusal(Rule::GateForm, at));
     }
     Ok(())
 }
 
-// Any header.
+// Any header of a gate list.
 fn check_header(w: u32, at: usize, c: Counts) -> Result<(), Refusal>
     requires { (at ≡ gate_list_length c) × (c.nodes ≤ max_nodes) }
     ensures { result ≡ header_verdict w c }
 {
-    if MAX_GRAPHS <= c.graphs {
-        return Err(Refusal(Rule::TooManyGraphs, at));
-    }
-    if word32::kind(w) == 0 {
-        return cardcheck::check_input(w, at, c);
-    }
-    check_gate(w, at, c)
+    cardcheck::check_header_by(w, at, c, check_gate)
 }
 
 // The word at p as a lead of a line.
@@ -68,7 +60,7 @@ fn check_lead(gates: &[u32], line: usize, p: usize) -> Result<(), Refusal>
         return Err(Refusal(Rule::WordNotDue, gates.len()));
     }
     let w = lists::get(gates, p);
-    if word32::kind(w) != 3 {
+    if !word32::is_kind(w, WordKind::Read) {
         return Err(Refusal(Rule::WordNotDue, p));
     }
     if word32::header_spare(w) != 0 {

@@ -1,5 +1,6 @@
 pub mod Lines
 pub mod Form
+pub mod Functions
 pub mod Gates
 pub mod Drawn
 pub mod AcceptsGates

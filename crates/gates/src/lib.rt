@@ -7,7 +7,7 @@ ghost use Rattle.answers.specs.Calls.{lends, whole, ByWords};
 ghost use Rattle.answers.specs.Ends.{EndsAs};
 ghost use Rattle.gates.specs.Calls.{to_card_outcome};
 
-use answers::{Done, Lent, Refusal, Rule};
+use answers::{Done, Lent, Refusal};
 
 // The work of the call, for a gate list whose words so many bytes follow that make no word, and a buffer of `room` words.
 pub fn to_card_with(gates: Lent<'_>, room: usize, card: &mut [u32]) -> Result<Done, Refusal>
@@ -15,9 +15,7 @@ pub fn to_card_with(gates: Lent<'_>, room: usize, card: &mut [u32]) -> Result<Do
     ensures { EndsAs (to_card_outcome (lends gates.entry) room) room result card.old card.new }
 {
     let c = gatecheck::check_lent(gates)?;
-    if room < c.graphs + 2 * c.nodes {
-        return Err(Refusal(Rule::BufferTooShort, 0));
-    }
+    answers::test_room(c.graphs + 2 * c.nodes, room)?;
     let n = gatewords::write_card(gates.words, c, card);
     Ok(Done {
         number: n,

@@ -1,6 +1,7 @@
 -- The card of a gate list as its words are written, piece after piece. Assumes nothing.
 use Prim.Native.Nat.{ℕ, suc, ◌+◌, ◌*◌, ◌<◌, ◌≤◌}
 use mathlib.Core.Path.{◌≡◌, refl, sym, ap, ◌∙◌}
+use mathlib.Core.Bool.{Bool, true, false}
 use mathlib.Core.List.{List, [], ◌∷◌, ◌++◌, append_assoc}
 use native.Mathlib.Omega.{arith}
 use native.Mathlib.Numerals.{add-one}
@@ -9,11 +10,12 @@ use lib.Seq.{length-take-le}
 use Rattle.lists.specs.Tables.{grow, chain, front}
 use Rattle.lists.proofs.Tables.{front-more}
 use Rattle.lists.proofs.Front.{front-none, front-on}
-use Rattle.word32.specs.Fields.{lead_count}
+use Rattle.word32.specs.Fields.{gate_function, lead_count}
 use Rattle.answers.specs.declared.Counts.{Counts}
-use Rattle.gatelist.specs.Lines.{first_lead, leads}
+use Rattle.gatelist.specs.Lines.{first_lead, header, input_line, function, leads}
 use Rattle.gatelist.specs.Drawn.{line_words, drawn}
 use Rattle.gatelist.specs.AcceptsGates.{AcceptsGates}
+use Rattle.gatelist.proofs.Walk.{gate-right}
 use Rattle.gatelist.proofs.Lines.{lead-next, drawn-long, lead-few, card-long}
 
 -- a store into a buffer d
@@ -67,6 +69,14 @@ module _ (gs : List ℕ) (c : Counts) (d : List ℕ) where
 
     -- one line more: what writing it asks, and what it leaves
     module _ (h : line < c.graphs) where
+      function-here : gate_function (get_or gs (line + lead) 0) < 6
+      unfolding function
+      function-here = rw y.at-lead (by (input_line gs line) refl)
+        where
+          by : (b : Bool) → input_line gs line ≡ b → gate_function (header gs line) < 6
+          by true z = omega (arith, (a.input line h z).0)
+          by false z = (gate-right _ _ (a.gate line h z).right).0
+
       header-here : lead_count (get_or gs (line + lead) 0) ≡ leads gs line
       unfolding leads
       header-here = rw y.at-lead
@@ -78,9 +88,10 @@ module _ (gs : List ℕ) (c : Counts) (d : List ℕ) where
       leads-few = lead-few a (suc line) (omega arith)
 
       pub line-asks : c.graphs + 2 * c.nodes ≤ length d
-          → (lead_count (get_or gs (line + lead) 0) ≤ 4096) × (line + lead + 1 + lead_count (get_or gs (line + lead) 0) ≤ length gs)
+          → (gate_function (get_or gs (line + lead) 0) < 6) × (lead_count (get_or gs (line + lead) 0) ≤ 4096) × (line + lead + 1 + lead_count (get_or gs (line + lead) 0) ≤ length gs)
           × (line + 2 * lead + 1 + 2 * lead_count (get_or gs (line + lead) 0) ≤ length out)
       line-asks r = (
+        function-here,
         omega (arith, leads-on, leads-few, a.few-leads),
         omega (arith, leads-on, leads-few, a.fits),
         omega (arith, leads-on, leads-few, y.long),

@@ -3,12 +3,11 @@ use Prim.Native.Nat.{ℕ, ◌≤◌}
 use mathlib.Core.Path.{◌≡◌}
 use mathlib.Core.List.{List}
 use native.Mathlib.Omega.{arith}
-use borrow.Author.Tests.{ltb-false}
 use Rattle.answers.specs.declared.Counts.{Counts}
 use Rattle.std.specs.Prelude.{Ok}
-use Rattle.answers.specs.Tests.{first_broken}
+use Rattle.answers.specs.Tests.{first_broken, room_tests}
 use Rattle.answers.specs.Calls.{Lent}
-use Rattle.answers.proofs.Tests.{all-passed}
+use Rattle.answers.proofs.Tests.{rooms-enough}
 use Rattle.testvectors.specs.Vectors.{list_verdict}
 use Rattle.testvectors.proofs.Laws.{list-long}
 use Rattle.opening.specs.Opened.{opened_list}
@@ -29,7 +28,5 @@ few-faults y = let s = y.shape in omega (arith, s.all-faults, s.few-nodes, s.few
 
 -- its room
 pub grade-room : (marks tallies : ℕ) (c : Counts) → first_broken (grade_tests marks tallies c) ≡ Ok tt → (c.faults ≤ marks) × (c.faults ≤ tallies)
-unfolding grade_tests
-grade-room marks tallies c e =
-    let p = all-passed (grade_tests marks tallies c) e in
-    (ltb-false marks c.faults p.0, ltb-false tallies c.faults p.1.0)
+unfolding grade_tests room_tests
+grade-room marks tallies c e = rooms-enough c.faults marks tallies e

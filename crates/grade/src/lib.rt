@@ -1,8 +1,8 @@
 // The grading of a list of vectors, marks and tallies in one, by a running result. The list is given by words or in bytes, and read a block at a time.
 #![tactic(auto)]
 
-ghost use Rattle.std.specs.Prelude.{◌≡◌, ◌*◌, ◌≤◌, min, length};
-ghost use Rattle.answers.specs.Limits.{max_faults, max_width};
+ghost use Rattle.std.specs.Prelude.{◌≡◌, ◌≤◌, min, length};
+ghost use Rattle.answers.specs.Limits.{max_faults};
 ghost use Rattle.answers.specs.Tests.{first_broken};
 ghost use Rattle.answers.specs.Calls.{lends, whole, ByWordsBoth};
 ghost use Rattle.answers.specs.Ends.{EndsBoth};
@@ -10,22 +10,17 @@ ghost use Rattle.testvectors.specs.Lists.{list_words, lent_list};
 ghost use Rattle.cardtables.specs.Stems.{in_grade};
 ghost use Rattle.cardtables.specs.Tables.{Tabled};
 ghost use Rattle.running.specs.Running.{Counted};
-ghost use Rattle.block.specs.Block.{block_vectors};
 ghost use Rattle.grade.specs.Graded.{CardWithList, Graded, GradedList};
 ghost use Rattle.grade.specs.Calls.{grade_tests, grade_outcome};
 
-use answers::{Counts, Done, Lent, MAX_WIDTH, Refusal, Rule};
+use answers::{Counts, Done, Lent, MAX_WIDTH, Refusal};
 use block::BLOCK;
 use cardtables::Tables;
 use running::Running;
 use testvectors::VectorList;
 
-// Room for the words of any block.
-fn block_room() -> [u32; BLOCK * MAX_WIDTH]
-    ensures { block_vectors * max_width ≡ length result }
-{
-    [0u32; BLOCK * MAX_WIDTH]
-}
+// The words of any block.
+const BLOCK_WORDS: usize = BLOCK * MAX_WIDTH;
 
 // Takes in a whole list, block by block, from a result that has taken in none.
 fn take_list(
@@ -43,7 +38,7 @@ fn take_list(
     ensures { GradedList card.now c (list_words list.entry) result marks.old tallies.old
         marks.new tallies.new }
 {
-    let mut buffer = block_room();
+    let mut buffer = lists::filled::<BLOCK_WORDS>(0);
     let w = testvectors::width(c.inputs);
     let n = list.length() / w;
     let mut r = start;
@@ -76,17 +71,11 @@ pub fn grade_list(
 }
 
 // The tests of a grading after the form of its list, for buffers of so many words: room for the marks, and then for the tallies.
-#[tactic(auto, unfolding(crate::specs::Calls::grade_tests))]
+#[tactic(auto, unfolding(crate::specs::Calls::grade_tests, answers::specs::Tests::room_tests))]
 fn test_grade(c: Counts, marks: usize, tallies: usize) -> Result<(), Refusal>
     ensures { result ≡ first_broken (grade_tests marks tallies c) }
 {
-    if marks < c.faults {
-        return Err(Refusal(Rule::BufferTooShort, 0));
-    }
-    if tallies < c.faults {
-        return Err(Refusal(Rule::BufferTooShort, 1));
-    }
-    Ok(())
+    answers::test_rooms(c.faults, marks, tallies)
 }
 
 // The grading of a card, whose words are followed by so many bytes that make no word, by a list, for buffers of `room` and `more` words. No card has

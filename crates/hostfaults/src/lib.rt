@@ -3,14 +3,13 @@
 #![tactic(auto)]
 
 ghost use Rattle.std.specs.Prelude.{◌≡◌, length};
+ghost use Rattle.answers.specs.Calls.{lends};
 ghost use Rattle.hostfaults.specs.Faults.{Highest, FaultsRead};
 
-// Room for the numbers of any list of faults, and for one number more, by which a longer one is refused.
-pub fn faults_room() -> [u32; 9]
-    ensures { 9 ≡ length result }
-{
-    [0u32; 9]
-}
+use answers::Lent;
+
+// The numbers of any list of faults, and one number more, by which a longer one is refused.
+pub const FAULTS_ROOM: usize = 9;
 
 // The highest of a number and those of a list in bytes from its tenth on.
 fn highest(faults: &[u8], start: u32) -> u32
@@ -23,17 +22,18 @@ fn highest(faults: &[u8], start: u32) -> u32
     high
 }
 
-// A list of faults in bytes goes to the front of a buffer; of a list that is too long, nine numbers, of which the last is the highest of the rest, so that
-// it is refused for a number too high where the list is.
-pub fn read_faults(faults: &[u8], out: &mut [u32]) -> usize
+// A list of faults in bytes goes to the front of a buffer, and is lent from there; of a list that is too long, nine numbers, of which the last is the highest
+// of the rest, so that it is refused for a number too high where the list is.
+pub fn read_faults<'a>(faults: &[u8], out: &'a mut [u32]) -> Lent<'a>
     requires { 9 ≡ length out.old }
-    ensures { FaultsRead faults.now result out.new }
+    ensures { FaultsRead faults.now (lends result) }
 {
     let n = inbytes::read_words(faults, out);
-    if faults.len() / 4 < 9 {
-        return n;
+    if n == 9 {
+        out[8] = highest(faults, out[8]);
     }
-    let start = lists::get(out, 8);
-    out[8] = highest(faults, start);
-    9
+    Lent {
+        words: &out[..n],
+        extra: faults.len() % 4,
+    }
 }

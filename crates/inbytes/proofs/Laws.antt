@@ -1,14 +1,15 @@
 -- What is read of bytes, a host's call by the end of its worker, and words written as bytes. Assumes nothing.
-use Prim.Native.Nat.{ℕ, ◌*◌, ◌/◌, ◌<◌, ◌≤◌, min}
+use Prim.Native.Nat.{ℕ, ◌-◌, ◌*◌, ◌/◌, ◌<◌, ◌≤◌, min}
 use mathlib.Core.Path.{◌≡◌, refl, sym, ap, ◌∙◌}
 use mathlib.Core.List.{List, []}
 use native.Mathlib.Omega.{arith}
 use native.Mathlib.Decide.{dec_le}
 use lib.ListN.{length, take}
-use lib.Seq.{length-take-le, take_all, get_or-take, ext_get_or}
-use Rattle.lists.specs.Tables.{tab, over}
-use Rattle.lists.proofs.Tables.{length-tab, tab-at, over-front, length_over, over_none}
+use lib.Seq.{take_all}
+use Rattle.lists.specs.Tables.{over}
+use Rattle.lists.proofs.Tables.{length-tab, length_over, over_none}
 use Rattle.word32.specs.Bytes.{word_at, words_of, byte_of}
+use Rattle.word32.proofs.Parts.{part-number, part-front}
 use Rattle.answers.specs.declared.Counts.{Counts}
 use Rattle.std.specs.Prelude.{Ok, Err}
 use Rattle.answers.specs.Answers.{broken_rule, Reply}
@@ -37,29 +38,25 @@ pub bytes-none : (b : List ℕ) → as_bytes [] b ≡ b
 unfolding as_bytes
 bytes-none b = over_none (byte_of []) b
 
--- the first words of a table
-tab-take : (f : ℕ → ℕ) (n m : ℕ) → n ≤ m → take n (tab f m) ≡ tab f n
-tab-take f n m h =
-    let e : length (take n (tab f m)) ≡ n = length-take-le n (tab f m) (omega (arith, length-tab f m)) in
-    ext_get_or 0 (take n (tab f m)) (tab f n) (e ∙ sym (length-tab f n)) (λ i l.
-    let k : i < n = omega (arith, e) in
-    rw get_or-take (tab-at f m i (omega arith) ∙ sym (tab-at f n i k)))
-
--- what was read
-pub words-read : (b d out : List ℕ) (n : ℕ) → n ≡ min (length b / 4) (length d) → out ≡ over n (word_at b) d → WordsRead b (length d) n out
-words-read b d out n e q = record {
-  fits = omega (arith, ap length q, length_over (word_at b) d n (omega arith));
-  front = ap (take n) q ∙ over-front (word_at b) d n ∙ go;
-}
+-- what was read: the words of the bytes that fit
+pub words-read : (b d : List ℕ) (n : ℕ) {part out : List ℕ} {r : ℕ} → n ≡ min (length b / 4) (length d) → part ≡ take (n * 4) b
+    → r ≡ length part / 4 → out ≡ over (length part / 4) (word_at part) d → WordsRead b (length d) r out
+words-read b d n {part} {out} {r} e p y q =
+    let l : n ≤ length b / 4 = omega arith in
+    let z : n * 4 ≡ n * 4 - 0 = omega arith in
+    let at = p ∙ ap (λ (k : ℕ). take k b) z in
+    let f = part-front b part 0 n (omega arith) l at d y q in
+    let k = part-number b part 0 n (omega arith) l at in
+    record { fits = omega (arith, ap length q, length_over (word_at part) d (length part / 4) (omega arith)); front = f ∙ go }
   where
-    go : tab (word_at b) n ≡ take (length d) (words_of b)
+    go : take (n - 0) (words_of b) ≡ take (length d) (words_of b)
     go = elim (dec_le (length b / 4) (length d)) [
       | yes h ↦
-          let z : n ≡ length b / 4 = omega arith in
-          rw z (sym (take_all (length d) (words_of b) (omega (arith, length-tab (word_at b) (length b / 4)))))
+          let m = length-tab (word_at b) (length b / 4) in
+          take_all (n - 0) (words_of b) (omega arith) ∙ sym (take_all (length d) (words_of b) (omega arith))
       | no h ↦
-          let z : n ≡ length d = omega arith in
-          rw z (sym (tab-take (word_at b) (length d) (length b / 4) (omega arith)))
+          let z : n - 0 ≡ length d = omega arith in
+          ap (λ (k : ℕ). take k (words_of b)) z
     ]
 
 -- a call over the words that were read is the call over what is lent: of a card, of a card and a vector, and of a card and a list, which is read in place

@@ -12,34 +12,19 @@ ghost use Rattle.inbytes.specs.Read.{WordsRead};
 
 use answers::{Done, Lent, MAX_GRAPHS, MAX_WIDTH, MAX_WORDS, Refusal, Rule};
 
-// Room for the words of any card, of any vector and of any wires, and for one word more, by which longer ones are refused.
-pub fn card_room() -> [u32; MAX_WORDS + 1]
-    ensures { max_words + 1 ≡ length result }
-{
-    [0u32; MAX_WORDS + 1]
-}
+// The words of any card, of any vector and of any wires, and one word more, by which longer ones are refused.
+pub const CARD_ROOM: usize = MAX_WORDS + 1;
 
-pub fn vector_room() -> [u32; MAX_WIDTH + 1]
-    ensures { max_width + 1 ≡ length result }
-{
-    [0u32; MAX_WIDTH + 1]
-}
+pub const VECTOR_ROOM: usize = MAX_WIDTH + 1;
 
-pub fn wires_room() -> [u32; MAX_GRAPHS + 1]
-    ensures { max_graphs + 1 ≡ length result }
-{
-    [0u32; MAX_GRAPHS + 1]
-}
+pub const WIRES_ROOM: usize = MAX_GRAPHS + 1;
 
 // The words of some bytes, as many as there are or as fit, go to the front of a buffer; the result is their number.
 pub fn read_words(b: &[u8], out: &mut [u32]) -> usize
     ensures { WordsRead b.now (length out.old) result out.new }
 {
     let n = (b.len() / 4).min(out.len());
-    for i in 0..n {
-        out[i] = word32::word_at(b, i);
-    }
-    n
+    word32::words_of(&b[..n * 4], out)
 }
 
 // What is lent in bytes: its words, as many as there are or as fit, go to the front of a buffer, and are lent from there.

@@ -13,6 +13,7 @@ ghost use Rattle.wiring.specs.Joined.{is_free, free_below, wrong_wire, size_test
 ghost use Rattle.joinwords.specs.Numbers.{wire_of, names_none, WithinLimits, Numbered, LowWires, wired_input, output_words, parts_words};
 
 use answers::{Counts, MAX_GRAPHS, MAX_NODES, Refusal, Rule};
+use word32::WordKind;
 
 // The wire word that leaves its input free.
 const FREE: u32 = 0xFFFF_FFFF;
@@ -62,10 +63,7 @@ fn test_size(graphs: usize, nodes: usize, room: usize) -> Result<(), Refusal>
     if MAX_NODES < nodes {
         return Err(Refusal(Rule::JoinedTooLarge, 0));
     }
-    if room < graphs + 2 * nodes {
-        return Err(Refusal(Rule::BufferTooShort, 0));
-    }
-    Ok(())
+    answers::test_room(graphs + 2 * nodes, room)
 }
 
 // The tests after both checks, for a buffer of `room` words: the number of wire words, each of them, the limits of a card, the room.
@@ -104,7 +102,7 @@ fn move_word(inputs: &[u32], start: usize, w: u32) -> u32
     requires { Numbered 4096 inputs.now start }
     ensures { result ≡ moved (renumbered (length inputs.now) (at inputs.now) start) w }
 {
-    if word32::kind(w) != 3 {
+    if !word32::is_kind(w, WordKind::Read) {
         return w;
     }
     word32::with_read(w, new_number(inputs, start, word32::read_graph(w)))
@@ -123,50 +121,34 @@ fn put_outputs(card: &[u32], inputs: &[u32], start: usize, out: &mut [u32], n: u
     n + words.len()
 }
 
-// A's inputs keep their numbers.
-fn keep_inputs(m: usize, inputs: &mut [u32])
-    requires { (m ≤ max_graphs) × (m ≤ length inputs.old) }
-    ensures { inputs.new ≡ over m (λ i. i) inputs.old }
-{
-    for (i, number) in inputs[..m].iter_mut().enumerate() {
-        *number = i as u32;
-    }
-}
-
-// The same as a table.
+// The new numbers of A's inputs: they keep theirs.
 fn kept_inputs(m: usize) -> layout::Graphs
     requires { m ≤ max_graphs }
     ensures { (max_graphs ≡ length result) × (take m result ≡ tab (λ i. i) m) }
 {
-    let mut table = layout::graph_table();
-    keep_inputs(m, &mut table);
+    let mut table = lists::filled::<MAX_GRAPHS>(0);
+    for (i, number) in table[..m].iter_mut().enumerate() {
+        *number = i as u32;
+    }
     table
 }
 
 // The new numbers of B's inputs, where those of A's are given: free ones follow A's inputs in their order.
-fn wire_inputs(wires: &[u32], inputs: &[u32], start: usize, out: &mut [u32])
-    requires { LowWires wires.now × Numbered 2048 inputs.now start × (length inputs.now ≤ max_graphs) × (length wires.now ≤ length out.old) }
-    ensures { out.new ≡ over (length wires.now) (wired_input wires.now inputs.now start) out.old }
-{
-    let mut due = inputs.len();
-    for (i, word) in wires.iter().enumerate() {
-        match wire_of(*word) {
-            Some(g) => out[i] = new_number(inputs, start, g) as u32,
-            None => {
-                out[i] = due as u32;
-                due += 1;
-            }
-        }
-    }
-}
-
-// The same as a table.
 fn wired_inputs(wires: &[u32], inputs: &[u32], start: usize) -> layout::Graphs
     requires { LowWires wires.now × Numbered 2048 inputs.now start × (length inputs.now ≤ max_graphs) }
     ensures { (max_graphs ≡ length result) × (take (length wires.now) result ≡ tab (wired_input wires.now inputs.now start) (length wires.now)) }
 {
-    let mut table = layout::graph_table();
-    wire_inputs(wires, inputs, start, &mut table);
+    let mut table = lists::filled::<MAX_GRAPHS>(0);
+    let mut due = inputs.len();
+    for (i, word) in wires.iter().enumerate() {
+        match wire_of(*word) {
+            Some(g) => table[i] = new_number(inputs, start, g) as u32,
+            None => {
+                table[i] = due as u32;
+                due += 1;
+            }
+        }
+    }
     table
 }
 

@@ -88,10 +88,10 @@ module _ {ws tables : List ℕ} {g : ℕ} (y : Walkable ws tables g) where
     pub header-in : g + 2 * f < length ws
     header-in = let z = first-is in omega (arith, y.fits)
 
-    pub observable-is : {w n : ℕ} → w ≡ get_or ws (g + 2 * f) 0 → n ≡ kind w → eqb n 2 ≡ observable ws g
+    pub observable-is : {w : ℕ} → w ≡ get_or ws (g + 2 * f) 0 → eqb (kind w) 2 ≡ observable ws g
     unfolding observable
-    observable-is a b =
-        ap (λ (n : ℕ). eqb n 2) b ∙ ap (λ (n : ℕ). eqb (kind n) 2) a
+    observable-is a =
+        ap (λ (n : ℕ). eqb (kind n) 2) a
         ∙ ap (λ (n : ℕ). eqb (kind (get_or ws (g + 2 * n) 0)) 2) first-is
 
   -- its local node k

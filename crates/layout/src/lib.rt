@@ -4,55 +4,18 @@
 ghost use Rattle.std.specs.Prelude.{◌≡◌, ◌+◌, ◌*◌, ◌-◌, ◌≤◌, ◌<◌, length, get_or};
 ghost use Rattle.lists.specs.Tables.{over};
 ghost use Rattle.word32.specs.Fields.{read_graph, exit_of};
-ghost use Rattle.answers.specs.Limits.{max_graphs, max_nodes, max_words, max_sites, max_faults};
 ghost use Rattle.layout.specs.Layout.{first, observable};
 ghost use Rattle.layout.specs.Shape.{Shape};
 ghost use Rattle.layout.specs.Tables.{Decided, Walkable};
 
-use answers::{Counts, MAX_FAULTS, MAX_GRAPHS, MAX_NODES, MAX_SITES, MAX_WORDS};
+use answers::{Counts, MAX_GRAPHS};
+use word32::WordKind;
 
-// A word for each graph, and for each site, of any card.
+// A word for each graph of any card.
 pub type Graphs = [u32; MAX_GRAPHS];
 
-pub type Sites = [u32; MAX_SITES];
-
-// Room for the words of any card; and for a word for each of its graphs, nodes, sites and faults.
-pub fn card_table() -> [u32; MAX_WORDS]
-    ensures { max_words ≡ length result }
-{
-    [0u32; MAX_WORDS]
-}
-
-pub fn graph_table() -> Graphs
-    ensures { max_graphs ≡ length result }
-{
-    [0u32; MAX_GRAPHS]
-}
-
-pub fn node_table() -> [u32; MAX_NODES]
-    ensures { max_nodes ≡ length result }
-{
-    [0u32; MAX_NODES]
-}
-
-pub fn site_table() -> Sites
-    ensures { max_sites ≡ length result }
-{
-    [0u32; MAX_SITES]
-}
-
-pub fn fault_table() -> [u32; MAX_FAULTS]
-    ensures { max_faults ≡ length result }
-{
-    [0u32; MAX_FAULTS]
-}
-
-// Room for the first nodes of any card, and for the number of nodes after them.
-pub fn first_table() -> [u32; MAX_GRAPHS + 1]
-    ensures { max_graphs + 1 ≡ length result }
-{
-    [0u32; MAX_GRAPHS + 1]
-}
+// The words of the first nodes of any card, and of the number of nodes after them.
+pub const FIRSTS: usize = MAX_GRAPHS + 1;
 
 // The first node of each graph of an accepted card, and after the last the number of nodes.
 pub fn first_nodes(card: &[u32], c: Counts, firsts: &mut [u32])
@@ -123,5 +86,5 @@ pub fn is_observable(card: &[u32], tables: &[u32], h: usize) -> bool
     ensures { result ≡ observable card.now h }
 {
     let first = first_node(tables, h);
-    word32::kind(lists::get(card, h + 2 * first)) == 2
+    word32::is_kind(lists::get(card, h + 2 * first), WordKind::Observable)
 }

@@ -1,12 +1,12 @@
 -- The table of named nodes, word by word, and what the parts of the check hand back. Assumes nothing.
 use Prim.Native.Nat.{ℕ, zero, suc, ◌+◌, ◌-◌, ◌*◌, ◌<◌, ◌≤◌}
-use mathlib.Core.Path.{◌≡◌, refl, ap, ◌∙◌}
+use mathlib.Core.Path.{◌≡◌, refl, sym, ap, ◌∙◌}
 use mathlib.Core.List.{List}
 use mathlib.Core.Bool.{Bool, true, false, not, ◌||◌}
 use native.Mathlib.Omega.{arith}
 use native.Mathlib.Decide.{ℕ_discrete, dec_lt}
 use native.Mathlib.Numerals.{add-one}
-use lib.ListN.{length, get_or, set, replicate, length-set, length-replicate}
+use lib.ListN.{length, get_or, set, length-set, get_or-eq_default}
 use lib.Seq.{get_or-set_same, get_or-set_other}
 use lib.Dec.{eqb}
 use borrow.Author.Tests.{eq-eqb, ne_eqb}
@@ -118,14 +118,15 @@ module _ (ws : List ℕ) (p n : ℕ) where
   zero-unnamed t s =
       some_same _ _ (n - 1) (λ i h. ap (λ (x : ℕ). eqb x 0) (s.has (suc i) (omega arith)) ∙ unset (some_below (names ws p (suc i)) n))
 
--- a table of zeros, and one whose first n places are cleared where the others are 0
-all-zeros : (n i : ℕ) → get_or {A = ℕ} (replicate n 0) i 0 ≡ 0
-all-zeros zero i = refl
-all-zeros (suc n) zero = refl
-all-zeros (suc n) (suc i) = all-zeros n i
-
-pub blank-zeros : (n : ℕ) → n ≡ 4096 → Blank (replicate n 0)
-blank-zeros n e = record { long = length-replicate n 0 ∙ e; zeros = all-zeros n }
+-- a table filled with 0, and one whose first n places are cleared where the others are 0
+pub blank-filled : {t : List ℕ} → 4096 ≡ length t → ((i : ℕ) → i < 4096 → get_or t i 0 ≡ 0) → Blank t
+blank-filled {t} e z = record {
+  long = sym e;
+  zeros = λ i. elim (dec_lt i 4096) [
+    | yes h ↦ z i h
+    | no n ↦ get_or-eq_default t 0 (omega arith)
+  ];
+}
 
 pub blank-again : (n : ℕ) (t : List ℕ) → n ≤ 4096 → length t ≡ 4096 → ((i : ℕ) → n ≤ i → get_or t i 0 ≡ 0) → Blank (over n (always 0) t)
 blank-again n t l e z = record {

@@ -8,22 +8,16 @@ ghost use Rattle.nodecheck.specs.Table.{ReadWord, ReadTold, ExitsWord, ExitsOf, 
 
 use answers::{MAX_NODES, Refusal, Rule};
 use reader::{Due, Reader};
+use word32::WordKind;
 
 // A word for each local node of any graph: 1 where an exit names it, and else 0.
 pub type Named = [u32; MAX_NODES];
-
-// The table in which no node is named.
-pub fn none_named() -> Named
-    ensures { Blank result }
-{
-    [0u32; MAX_NODES]
-}
 
 // The word w at a place, as the read of a node in graph g.
 fn word_as_read(w: u32, at: usize, g: usize) -> Result<(), Refusal>
     ensures { ReadWord w at g result }
 {
-    if word32::kind(w) != 3 {
+    if !word32::is_kind(w, WordKind::Read) {
         return Err(Refusal(Rule::WordNotDue, at));
     }
     if word32::read_spare(w) != 0 {
@@ -66,7 +60,7 @@ fn word_as_exits(w: u32, at: usize, n: usize, k: usize) -> Result<(usize, usize)
 {
     let e0 = word32::exit0(w);
     let e1 = word32::exit1(w);
-    if word32::kind(w) != 4 {
+    if !word32::is_kind(w, WordKind::Exits) {
         return Err(Refusal(Rule::WordNotDue, at));
     }
     if word32::exits_spare(w) != 0 {

@@ -10,6 +10,7 @@ ghost use Rattle.value.specs.Values.{path_length};
 ghost use Rattle.pathlengths.specs.GoodValues.{GoodIn};
 
 use answers::Counts;
+use layout::FIRSTS;
 
 // The length of graph g, where the buffer has the graphs' good values: an input takes no decision, an output those of its walk.
 fn path_length(card: &[u32], c: Counts, firsts: &[u32], g: usize, values: &[u32]) -> u32
@@ -29,7 +30,7 @@ pub fn path_lengths(card: &[u32], c: Counts, values: &[u32], lengths: &mut [u32]
     ensures { (x : List ℕ) → GoodIn card.now c x values.now
         → lengths.new ≡ over c.graphs (path_length card.now c good x) lengths.old }
 {
-    let mut firsts = layout::first_table();
+    let mut firsts = lists::filled::<FIRSTS>(0);
     layout::first_nodes(card, c, &mut firsts);
     for (g, length) in lengths[..c.graphs].iter_mut().enumerate() {
         *length = path_length(card, c, &firsts, g, values);

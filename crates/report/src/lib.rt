@@ -10,11 +10,12 @@ ghost use Rattle.testvectors.specs.Lists.{list_words};
 ghost use Rattle.detect.specs.Grading.{mark, tally, marked};
 ghost use Rattle.grade.specs.Graded.{CardWithList};
 ghost use Rattle.textlines.specs.Text.{max_text, grading_text};
-ghost use Rattle.textlines.specs.Puts.{Puts};
+ghost use Rattle.textlines.specs.Puts.{Grew};
 ghost use Rattle.report.specs.Report.{max_input, word_count, graded_text, text_of, bytes_wanted};
 
-use answers::{Counts, Lent, MAX_WORDS, Refusal};
+use answers::{Counts, Lent, MAX_FAULTS, MAX_WORDS, Refusal, Rule};
 use testvectors::VectorList;
+use textlines::Text;
 
 // The most vector words that are taken, the most bytes after a card that can decide, and the most bytes in all; specs/Report.antt has the same.
 const MAX_VECTOR_WORDS: usize = 16384;
@@ -24,62 +25,62 @@ const MAX_VECTOR_BYTES: usize = 4 * (MAX_VECTOR_WORDS + 1);
 pub const MAX_INPUT: usize = 4 + 4 * MAX_WORDS + MAX_VECTOR_BYTES;
 
 // The text for an accepted card and a list of vectors.
-fn report_accepted(card: &[u32], c: Counts, list: VectorList<'_>, out: &mut [u8]) -> usize
-    requires { CardWithList card.now c (list_words list) × (max_text ≤ length out.old) }
-    ensures { Puts out.old 0 (grading_text c (mark card.now c (list_words list.entry))
+fn report_accepted(card: &[u32], c: Counts, list: VectorList<'_>, text: &mut Text<'_>)
+    requires { CardWithList card.now c (list_words list) × (text.old.at + max_text ≤ length text.old.out.now) }
+    ensures { Grew text.old (grading_text c (mark card.now c (list_words list.entry))
         (tally card.now c (list_words list.entry)) (marked card.now c (list_words list.entry))
-        (total card.now c)) result out.new }
+        (total card.now c)) text.new }
 {
-    let mut marks = layout::fault_table();
-    let mut tallies = layout::fault_table();
+    let mut marks = lists::filled::<MAX_FAULTS>(0);
+    let mut tallies = lists::filled::<MAX_FAULTS>(0);
     let tables = cardtables::make_tables(card, c);
     let marked = grade::grade_list(card, c, &tables, list, &mut marks, &mut tallies);
     let total = cardtables::total(c, &tables);
-    textlines::put_grading(out, c, &marks, &tallies, marked, total)
+    text.put_grading(c, &marks, &tallies, marked, total);
 }
 
 // The text for a card and the bytes of vector words.
-fn report_words(card: &[u32], vectors: &[u8], out: &mut [u8]) -> usize
-    requires { (length vectors.now % 4 ≡ 0) × (max_text ≤ length out.old) }
-    ensures { Puts out.old 0 (graded_text card.now (words_of vectors.now)) result out.new }
+fn report_words(card: &[u32], vectors: &[u8], text: &mut Text<'_>)
+    requires { (length vectors.now % 4 ≡ 0) × (text.old.at + max_text ≤ length text.old.out.now) }
+    ensures { Grew text.old (graded_text card.now (words_of vectors.now)) text.new }
 {
     let list = VectorList::Bytes(vectors);
     match opening::open_list(Lent::whole(card), list) {
-        Err(Refusal(rule, position)) => textlines::put_refused(out, u32::from(rule), position),
-        Ok(c) => report_accepted(card, c, list, out),
+        Err(Refusal(rule, position)) => text.put_refused(u32::from(rule), position),
+        Ok(c) => report_accepted(card, c, list, text),
     }
 }
 
 // The text for the bytes of a card and of vector words.
-fn report_parts(card: &[u8], vectors: &[u8], out: &mut [u8]) -> usize
-    requires { (length card.now / 4 ≤ max_words) × (length vectors.now % 4 ≡ 0) × (max_text ≤ length out.old) }
-    ensures { Puts out.old 0 (graded_text (words_of card.now) (words_of vectors.now)) result out.new }
+fn report_parts(card: &[u8], vectors: &[u8], text: &mut Text<'_>)
+    requires { (length card.now / 4 ≤ max_words) × (length vectors.now % 4 ≡ 0) × (text.old.at + max_text ≤ length text.old.out.now) }
+    ensures { Grew text.old (graded_text (words_of card.now) (words_of vectors.now)) text.new }
 {
-    let mut card_words = layout::card_table();
+    let mut card_words = lists::filled::<MAX_WORDS>(0);
     let n = word32::words_of(card, &mut card_words);
-    report_words(&card_words[..n], vectors, out)
+    report_words(&card_words[..n], vectors, text);
 }
 
 // The text for all the bytes read, given their word count.
-fn report_counted(input: &[u8], n: usize, out: &mut [u8]) -> usize
-    requires { (4 ≤ length input.now) × (n ≡ word_count input.now) × (max_text ≤ length out.old) }
-    ensures { Puts out.old 0 (text_of input.now) result out.new }
+fn report_counted(input: &[u8], n: usize, text: &mut Text<'_>)
+    requires { (4 ≤ length input.now) × (n ≡ word_count input.now) × (text.old.at + max_text ≤ length text.old.out.now) }
+    ensures { Grew text.old (text_of input.now) text.new }
 {
     if MAX_WORDS < n {
-        return textlines::put_refused(out, 1, 0);
+        return text.put_refused(u32::from(Rule::CardTooLong), 0);
     }
     let start = 4 + 4 * n;
     if input.len() < start {
-        return textlines::put(out, 0, b"short\n");
+        return text.put(b"short\n");
     }
     let rest = input.len() - start;
     if MAX_VECTOR_WORDS < rest / 4 {
-        return textlines::put(out, 0, b"long\n");
+        return text.put(b"long\n");
     }
     if rest % 4 != 0 {
-        return textlines::put(out, 0, b"short\n");
+        return text.put(b"short\n");
     }
-    report_parts(&input[4..start], &input[start..], out)
+    report_parts(&input[4..start], &input[start..], text);
 }
 
 // The text for the bytes read stands in the front of the buffer, whose other bytes stay; the result is its length.
@@ -88,10 +89,13 @@ pub fn report(input: &[u8], out: &mut [u8]) -> usize
     ensures { (result ≡ length (text_of input.now)) × (out.new ≡ front (text_of input.now) out.old)
         × (result ≤ length out.new) }
 {
+    let mut text = Text { out, at: 0 };
     if input.len() < 4 {
-        return textlines::put(out, 0, b"short\n");
+        text.put(b"short\n");
+    } else {
+        report_counted(input, word32::word_at(input, 0) as usize, &mut text);
     }
-    report_counted(input, word32::word_at(input, 0) as usize, out)
+    text.at
 }
 
 // How many bytes decide, given the first four or, where there are fewer, all.

@@ -6,6 +6,8 @@ ghost use Rattle.std.specs.Prelude.{◌≡◌, ◌+◌, ◌*◌, ◌≤◌, ◌<
 ghost use Rattle.answers.specs.Limits.{max_sites, max_vectors};
 ghost use Rattle.running.specs.Running.{Put, in_grade_by, found, Folded, TalliesUpTo, Counted};
 
+use answers::FIRST_MARK;
+
 // Site p, where the fault stuck at d is caught, or none if d is 2: its tally, its mark at the first catch, and the marked count, in which the fault
 // counts if the site's word in `graded` is 1. The word is looked at no earlier.
 fn take_site(
@@ -30,7 +32,7 @@ fn take_site(
     if 0 < n {
         return marked;
     }
-    lists::put(marks, f, 0xE000_0000 + t);
+    lists::put(marks, f, FIRST_MARK + t);
     if lists::get(graded, p) != 1 {
         return marked;
     }
@@ -60,7 +62,7 @@ fn take_sites(
 }
 
 // The running result of a grading: the number of the vector that is due, and how many of the faults that count are marked.
-#[derive(Clone, Copy)]
+#[derive(Clone, Copy, Default)]
 pub struct Running {
     pub vector: u32,
     pub marked: usize,
@@ -71,10 +73,7 @@ impl Running {
     pub fn start() -> Running
         ensures { (result.vector ≡ 0) × (result.marked ≡ 0) }
     {
-        Running {
-            vector: 0,
-            marked: 0,
-        }
+        Running::default()
     }
 
     // Takes in what one vector catches at n sites and hands the next result back. What it promises holds of any two buffers that the result counts.

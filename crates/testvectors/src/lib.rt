@@ -12,6 +12,7 @@ ghost use Rattle.testvectors.specs.Lists.{list_words, lent_list};
 ghost use Rattle.testvectors.specs.Parts.{HasBit};
 
 use answers::{Lent, MAX_VECTORS, Refusal, Rule};
+use word32::WordKind;
 
 // The words of a vector for m inputs.
 pub fn width(m: usize) -> usize
@@ -31,15 +32,12 @@ pub fn bit(vector: &[u32], i: usize) -> u32
 }
 
 // How many inputs word j of a vector carries.
+#[tactic(auto, unfolding(crate::specs::Vectors::carried))]
 fn carried(m: usize, j: usize) -> u32
     requires { (m ≤ max_graphs) × (16 * j < m) }
     ensures { (result ≡ carried m j) × (result ≤ 16) }
 {
-    let left = m - 16 * j;
-    if 16 <= left {
-        return 16;
-    }
-    left as u32
+    (m - 16 * j).min(16) as u32
 }
 
 // A word at p, which is word j of its vector.
@@ -47,9 +45,8 @@ fn check_word(m: usize, j: usize, p: usize, w: u32) -> Result<(), Refusal>
     requires { (m ≤ max_graphs) × (16 * j < m) }
     ensures { result ≡ word_verdict m j p w }
 {
-    let kind = word32::kind(w);
     let spare = word32::input_spare(w) >> carried(m, j);
-    if kind != 5 {
+    if !word32::is_kind(w, WordKind::Vector) {
         return Err(Refusal(Rule::VectorForm, p));
     }
     if spare != 0 {

@@ -38,11 +38,11 @@ pub printed : (n : ℕ) → n < 2 ^ 64 → printed_digits n ≡ decimal n
 printed = decimal_by_steps (λ n ds. ds ≡ decimal n) (λ n l. sym (decimal-last n l)) (λ n ds l e. rw e (sym (decimal-more n l)))
 
 -- the sizes at hand: a fault's number, a 32-bit word, a 64-bit number
-pub few-5 : (n : ℕ) → n < 100000 → length (decimal n) ≤ 5
-few-5 n h = rw (← printed n (omega arith)) (length-decimal-le 5 n (omega arith) h (omega arith))
+pub few_5 : (n : ℕ) → n < 100000 → length (decimal n) ≤ 5
+few_5 n h = rw (← printed n (omega arith)) (length-decimal-le 5 n (omega arith) h (omega arith))
 
-pub few-10 : (n : ℕ) → n < 4294967296 → length (decimal n) ≤ 10
-few-10 n h = rw (← printed n (omega arith)) (length-decimal-le 10 n (omega arith) (omega arith) (omega arith))
+pub few_10 : (n : ℕ) → n < 4294967296 → length (decimal n) ≤ 10
+few_10 n h = rw (← printed n (omega arith)) (length-decimal-le 10 n (omega arith) (omega arith) (omega arith))
 
-pub few-20 : (n : ℕ) → n < 18446744073709551616 → length (decimal n) ≤ 20
-few-20 n h = rw (← printed n h) (length-decimal-le 20 n (omega arith) (omega arith) h)
+pub few_20 : (n : ℕ) → n < 18446744073709551616 → length (decimal n) ≤ 20
+few_20 n h = rw (← printed n h) (length-decimal-le 20 n (omega arith) (omega arith) h)

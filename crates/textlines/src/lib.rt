@@ -1,139 +1,150 @@
-// What cardgrade prints, put into a buffer line by line. specs/Text.antt says what the lines are.
+// What cardgrade prints, written on line by line into a buffer. specs/Text.antt says what the lines are.
 #![tactic(auto)]
 
-ghost use Rattle.std.specs.Prelude.{◌∷◌, [], ◌≡◌, ◌+◌, ◌*◌, ◌-◌, ◌<◌, ◌≤◌, length, get_or};
+ghost use Rattle.std.specs.Prelude.{◌∷◌, [], ◌≡◌, ◌+◌, ◌*◌, ◌-◌, ◌<◌, ◌≤◌, length, get_or, MatchOption};
 ghost use Rattle.answers.specs.Limits.{max_faults};
 ghost use Rattle.textlines.specs.Text.{max_text, decimal, field, mark_field, count_fields, card_line, fault_line, fault_lines, line, grading_text, refused_line};
-ghost use Rattle.textlines.specs.Puts.{Puts};
+ghost use Rattle.textlines.specs.Puts.{Grew};
 
-use answers::{Counts, MAX_FAULTS};
+use answers::{Counts, FIRST_MARK, MAX_FAULTS, UNMARKED};
 use itoa::Buffer;
 
 // The length of the longest text; specs/Text.antt has the same.
 pub const MAX_TEXT: usize = 28 * MAX_FAULTS + 160;
 
-// Bytes go to a position of the buffer; the result is the position after them.
-pub fn put(out: &mut [u8], at: usize, bytes: &[u8]) -> usize
-    requires { at + length bytes.now ≤ length out.old }
-    ensures { Puts out.old at bytes.now result out.new }
-{
-    let end = at + bytes.len();
-    out[at..end].copy_from_slice(bytes);
-    end
+// A text that grows in a buffer, and where it goes on.
+#[derive(Drop)]
+pub struct Text<'a> {
+    pub out: &'a mut [u8],
+    pub at: usize,
 }
 
-// The digits of a number, the highest first.
-fn put_decimal(out: &mut [u8], at: usize, n: usize) -> usize
-    requires { at + length (decimal n) ≤ length out.old }
-    ensures { Puts out.old at (decimal n) result out.new }
-{
-    put(out, at, Buffer::new().format(n).as_bytes())
-}
-
-// A space and a number.
-fn put_field(out: &mut [u8], at: usize, n: usize) -> usize
-    requires { at + length (field n) ≤ length out.old }
-    ensures { Puts out.old at (field n) result out.new }
-{
-    let next = put(out, at, b" ");
-    put_decimal(out, next, n)
-}
-
-// The vector that a mark tells. A mark that tells one is E0000000 or more; of any other this is 0.
-fn first_vector(mark: u32) -> usize
-    ensures { (result ≡ mark - 0xE0000000) × (result < 4294967296) }
-{
-    mark.saturating_sub(0xE000_0000) as usize
-}
-
-// A space and the first vector, or `-`.
-fn put_mark(out: &mut [u8], at: usize, mark: u32) -> usize
-    requires { at + 11 ≤ length out.old }
-    ensures { Puts out.old at (mark_field mark) result out.new × (result ≤ at + 11) }
-{
-    if mark == 0xC000_0000 {
-        return put(out, at, b" -");
+#[tactic(auto, using(crate::proofs::Digits::few_5, crate::proofs::Digits::few_10, crate::proofs::Digits::few_20))]
+impl<'a> Text<'a> {
+    // Bytes go to the end of the text.
+    pub fn put(&mut self, bytes: &[u8])
+        requires { self.old.at + length bytes.now ≤ length self.old.out.now }
+        ensures { Grew self.old bytes.now self.new }
+    {
+        let end = self.at + bytes.len();
+        self.out[self.at..end].copy_from_slice(bytes);
+        self.at = end;
     }
-    put_field(out, at, first_vector(mark))
-}
 
-// The line of one fault, in 28 bytes at most.
-fn put_fault(out: &mut [u8], at: usize, f: usize, mark: u32, tally: u32) -> usize
-    requires { (at + 28 ≤ length out.old) × (f < max_faults) }
-    ensures { Puts out.old at (fault_line f mark tally) result out.new × (result ≤ at + 28) }
-{
-    let after_number = put_decimal(out, at, f);
-    let after_mark = put_mark(out, after_number, mark);
-    let after_tally = put_field(out, after_mark, tally as usize);
-    put(out, after_tally, b"\n")
-}
-
-// The lines of the first n faults.
-fn put_faults(out: &mut [u8], at: usize, n: usize, marks: &[u32], tallies: &[u32]) -> usize
-    requires { (at + 28 * n ≤ length out.old) × (n ≤ max_faults) × (n ≤ length marks.now) × (n ≤ length tallies.now) }
-    ensures { Puts out.old at (fault_lines (λ f. get_or marks.now f 0) (λ f. get_or tallies.now f 0) n) result out.new
-        × (result ≤ at + 28 * n) }
-{
-    let mut next = at;
-    for f in 0..n {
-        next = put_fault(out, next, f, lists::get(marks, f), lists::get(tallies, f));
+    // The digits of a number, the highest first.
+    fn put_decimal(&mut self, n: usize)
+        requires { self.old.at + length (decimal n) ≤ length self.old.out.now }
+        ensures { Grew self.old (decimal n) self.new }
+    {
+        self.put(Buffer::new().format(n).as_bytes());
     }
-    next
+
+    // A space and a number.
+    fn put_field(&mut self, n: usize)
+        requires { self.old.at + length (field n) ≤ length self.old.out.now }
+        ensures { Grew self.old (field n) self.new }
+    {
+        self.put(b" ");
+        self.put_decimal(n);
+    }
+
+    // A space and the first vector that a mark tells, or `-`.
+    fn put_mark(&mut self, mark: u32)
+        requires { self.old.at + 11 ≤ length self.old.out.now }
+        ensures { Grew self.old (mark_field mark) self.new × (self.new.at ≤ self.old.at + 11) }
+    {
+        match first_vector(mark) {
+            None => self.put(b" -"),
+            Some(t) => self.put_field(t),
+        }
+    }
+
+    // The line of one fault, in 28 bytes at most.
+    fn put_fault(&mut self, f: usize, mark: u32, tally: u32)
+        requires { (self.old.at + 28 ≤ length self.old.out.now) × (f < max_faults) }
+        ensures { Grew self.old (fault_line f mark tally) self.new × (self.new.at ≤ self.old.at + 28) }
+    {
+        self.put_decimal(f);
+        self.put_mark(mark);
+        self.put_field(tally as usize);
+        self.put(b"\n");
+    }
+
+    // The lines of the first n faults.
+    fn put_faults(&mut self, n: usize, marks: &[u32], tallies: &[u32])
+        requires { (self.old.at + 28 * n ≤ length self.old.out.now) × (n ≤ max_faults) × (n ≤ length marks.now) × (n ≤ length tallies.now) }
+        ensures { Grew self.old (fault_lines (λ f. get_or marks.now f 0) (λ f. get_or tallies.now f 0) n) self.new
+            × (self.new.at ≤ self.old.at + 28 * n) }
+    {
+        for f in 0..n {
+            self.put_fault(f, lists::get(marks, f), lists::get(tallies, f));
+        }
+    }
+
+    // The numbers of a card, each of 21 bytes at most with its space.
+    fn put_counts(&mut self, c: Counts)
+        requires { self.old.at + 84 ≤ length self.old.out.now }
+        ensures { Grew self.old (count_fields c) self.new × (self.new.at ≤ self.old.at + 84) }
+    {
+        self.put_field(c.inputs);
+        self.put_field(c.graphs);
+        self.put_field(c.nodes);
+        self.put_field(c.faults);
+    }
+
+    // The line of a card.
+    fn put_card(&mut self, c: Counts)
+        requires { self.old.at + 100 ≤ length self.old.out.now }
+        ensures { Grew self.old (card_line c) self.new × (self.new.at ≤ self.old.at + 100) }
+    {
+        self.put(b"card");
+        self.put_counts(c);
+        self.put(b"\n");
+    }
+
+    // A line of a word and two numbers.
+    pub fn put_line(&mut self, word: &[u8], x: usize, y: usize)
+        requires { self.old.at + length word.now + 43 ≤ length self.old.out.now }
+        ensures { Grew self.old (line word.now x y) self.new }
+    {
+        self.put(word);
+        self.put_field(x);
+        self.put_field(y);
+        self.put(b"\n");
+    }
+
+    // The line of a refusal.
+    pub fn put_refused(&mut self, number: u32, position: usize)
+        requires { self.old.at + 60 ≤ length self.old.out.now }
+        ensures { Grew self.old (refused_line number position) self.new }
+    {
+        self.put_line(b"refused", number as usize, position);
+    }
+
+    // The whole text of a grading. 286,880 bytes hold any: 100 for the card's line, 28 for each of 10,240 faults, 60 for the grade's.
+    pub fn put_grading(
+        &mut self,
+        c: Counts,
+        marks: &[u32],
+        tallies: &[u32],
+        marked: usize,
+        total: usize,
+    )
+        requires { (self.old.at + max_text ≤ length self.old.out.now) × (c.faults ≤ max_faults) × (c.faults ≤ length marks.now) × (c.faults ≤ length tallies.now) }
+        ensures { Grew self.old (grading_text c (λ f. get_or marks.now f 0) (λ f. get_or tallies.now f 0) marked total) self.new }
+    {
+        self.put_card(c);
+        self.put_faults(c.faults, marks, tallies);
+        self.put_line(b"grade", marked, total);
+    }
 }
 
-// The numbers of a card, each of 21 bytes at most with its space.
-fn put_counts(out: &mut [u8], at: usize, c: Counts) -> usize
-    requires { at + 84 ≤ length out.old }
-    ensures { Puts out.old at (count_fields c) result out.new × (result ≤ at + 84) }
+// The first vector that catches a fault, which its mark tells, or none. A mark that is neither UNMARKED nor FIRST_MARK or more tells 0.
+fn first_vector(mark: u32) -> Option<usize>
+    ensures { MatchOption result (mark ≡ UNMARKED) (λ t. ¬ (mark ≡ UNMARKED) × (t ≡ mark - FIRST_MARK) × (t < 4294967296)) }
 {
-    let after_inputs = put_field(out, at, c.inputs);
-    let after_graphs = put_field(out, after_inputs, c.graphs);
-    let after_nodes = put_field(out, after_graphs, c.nodes);
-    put_field(out, after_nodes, c.faults)
-}
-
-// The line of a card.
-fn put_card(out: &mut [u8], c: Counts) -> usize
-    requires { 100 ≤ length out.old }
-    ensures { Puts out.old 0 (card_line c) result out.new × (result ≤ 100) }
-{
-    let after_word = put(out, 0, b"card");
-    let after_counts = put_counts(out, after_word, c);
-    put(out, after_counts, b"\n")
-}
-
-// A line of a word and two numbers.
-pub fn put_line(out: &mut [u8], at: usize, word: &[u8], x: usize, y: usize) -> usize
-    requires { at + length word.now + 43 ≤ length out.old }
-    ensures { Puts out.old at (line word.now x y) result out.new }
-{
-    let after_word = put(out, at, word);
-    let after_x = put_field(out, after_word, x);
-    let after_y = put_field(out, after_x, y);
-    put(out, after_y, b"\n")
-}
-
-// The line of a refusal.
-pub fn put_refused(out: &mut [u8], number: u32, position: usize) -> usize
-    requires { 60 ≤ length out.old }
-    ensures { Puts out.old 0 (refused_line number position) result out.new }
-{
-    put_line(out, 0, b"refused", number as usize, position)
-}
-
-// The whole text of a grading. 286,880 bytes hold any: 100 for the card's line, 28 for each of 10,240 faults, 60 for the grade's.
-pub fn put_grading(
-    out: &mut [u8],
-    c: Counts,
-    marks: &[u32],
-    tallies: &[u32],
-    marked: usize,
-    total: usize,
-) -> usize
-    requires { (max_text ≤ length out.old) × (c.faults ≤ max_faults) × (c.faults ≤ length marks.now) × (c.faults ≤ length tallies.now) }
-    ensures { Puts out.old 0 (grading_text c (λ f. get_or marks.now f 0) (λ f. get_or tallies.now f 0) marked total) result out.new }
-{
-    let after_card = put_card(out, c);
-    let after_faults = put_faults(out, after_card, c.faults, marks, tallies);
-    put_line(out, after_faults, b"grade", marked, total)
+    if mark == UNMARKED {
+        return None;
+    }
+    Some(mark.saturating_sub(FIRST_MARK) as usize)
 }

@@ -1,11 +1,15 @@
 -- Words written as bytes, and read again from them. Assumes nothing.
 use Prim.Native.Nat.{ℕ, ◌+◌, ◌-◌, ◌*◌, ◌/◌, ◌%◌, ◌^◌, ◌<◌, ◌≤◌}
-use mathlib.Core.Path.{◌≡◌, refl, sym, ◌∙◌}
-use mathlib.Core.List.{List}
+use mathlib.Core.Path.{◌≡◌, refl, sym, ap, ◌∙◌}
+use mathlib.Core.List.{List, ◌∷◌, ◌++◌}
 use native.Mathlib.Nat.{add-zero}
+use native.Mathlib.Numerals.{unary_clauses}
 use native.Mathlib.Omega.{arith}
-use lib.ListN.{length, get_or, set, length-set}
-use lib.Seq.{get_or-set_same, get_or-set_other}
+use lib.ListN.{length, get_or, set, take, drop, length-set}
+use lib.Seq.{get_or-set_same, get_or-set_other, sets, sets-eq, drop-drop}
+use borrow.Rule.Slice.PartMut.{put_mid}
+use Rattle.std.specs.Int.{w32, to_be_bytes}
+use Rattle.std.proofs.Common.{append_assoc}
 use Rattle.lists.specs.Tables.{over}
 use Rattle.lists.proofs.Tables.{over-store, over-at}
 use Rattle.word32.specs.Bytes.{word_at, set_word, byte_of}
@@ -28,6 +32,17 @@ written_read b i w h f =
     get_or-set_other b₃ (p + 3) (p + 2) _ 0 (λ e. omega arith) ∙ get_or-set_same b₂ (p + 2) _ 0 (simp length-set (omega arith)) in
     let x₃ : get_or (set_word b i w) (p + 3) 0 ≡ w % 2 ^ 8 = get_or-set_same b₃ (p + 3) _ 0 (simp length-set (omega arith)) in
     omega arith
+
+-- the four bytes of a word, copied into their places
+pub word-copied : (b : List ℕ) (i w k : ℕ) → i * 4 + 4 ≤ length b → w < 2 ^ 32 → k ≡ 4 → put_mid (i * 4) k b (to_be_bytes w32 w) ≡ set_word b i w
+unfolding set_word
+word-copied b i w k h f e =
+    let p = i * 4 in
+    let bytes = to_be_bytes w32 w in
+    let top : w / 2 ^ 24 % 2 ^ 8 ≡ w / 2 ^ 24 = omega arith in
+    let part : put_mid p k b bytes ≡ take p b ++ (bytes ++ drop (p + 4) b) = rw e (ap (λ r. take p b ++ (bytes ++ r)) (drop-drop 4 p b)) in
+    let same : put_mid p k b bytes ≡ sets b p bytes = part ∙ sym (append_assoc (take p b) bytes (drop (p + 4) b)) ∙ sym (sets-eq bytes b p h) in
+    same ∙ simp unary_clauses (ap (λ (v : ℕ). sets b p (v ∷ drop 1 bytes)) top)
 
 module _ (ws d : List ℕ) (i : ℕ) where
   -- byte k of word i

@@ -1,9 +1,20 @@
 -- The fields of a 32-bit word, by division and remainder. Bit 0 is the lowest. Assumes nothing.
 use Rattle.std.specs.Prelude.{ℕ, zero, suc, ◌+◌, ◌-◌, ◌*◌, ◌/◌, ◌%◌, ◌^◌}
+use Rattle.word32.specs.declared.WordKind.{WordKind}
+use Rattle.word32.specs.declared.WordKind.TheVariants.{Input, Hidden, Observable, Read, Exits, Vector}
 
 -- bits 31..29: what kind of word it is
 abbrev pub kind : ℕ → ℕ
 kind w = w / 2 ^ 29
+
+-- the number of each kind
+abbrev pub code_of : WordKind → ℕ
+code_of Input = 0
+code_of Hidden = 1
+code_of Observable = 2
+code_of Read = 3
+code_of Exits = 4
+code_of Vector = 5
 
 -- bits 28..0, which must be zero in an input
 abbrev pub input_spare : ℕ → ℕ

@@ -1,17 +1,38 @@
 // 32-bit words: their fields, by shifts and masks, and the bytes that hold them, highest byte first.
 #![tactic(auto)]
 
-ghost use Rattle.std.specs.Prelude.{◌≡◌, ◌+◌, ◌*◌, ◌/◌, ◌<◌, ◌≤◌, length};
+ghost use Rattle.std.specs.Prelude.{◌≡◌, ◌+◌, ◌*◌, ◌/◌, ◌<◌, ◌≤◌, eqb, length};
 ghost use Rattle.lists.specs.Tables.{over};
-ghost use Rattle.word32.specs.Fields.{kind, input_spare, header_spare, read_spare, exits_spare, node_count, read_graph, read_inverted, with_read, exit_of, bit_of};
+ghost use Rattle.word32.specs.Fields.{kind, code_of, input_spare, header_spare, read_spare, exits_spare, node_count, read_graph, read_inverted, with_read, exit_of, bit_of};
 ghost use Rattle.word32.specs.Fields.{header_word, exits_word, gate_function, gate_spare};
 ghost use Rattle.word32.specs.Bytes.{word_at, set_word, byte_of};
+
+// What a word is, in the order of the numbers in its bits 31..29: the header of an input, of a hidden graph or of an observable one; a node's read, and
+// its pair of exits; or a word of a vector.
+#[derive(Clone, Copy, PartialEq, Eq, Debug)]
+pub enum WordKind {
+    Input,
+    Hidden,
+    Observable,
+    Read,
+    Exits,
+    Vector,
+}
+
+// Each field is written out: `(w >> 16) & 0x1FFF` is no longer than a call of one generic function, and shows the bits.
 
 // Bits 31..29: what kind of word it is.
 pub fn kind(w: u32) -> u32
     ensures { result ≡ kind w }
 {
     w >> 29
+}
+
+// Whether a word is of kind k.
+pub fn is_kind(w: u32, k: WordKind) -> bool
+    ensures { result ≡ eqb (kind w) (code_of k) }
+{
+    kind(w) == k as u32
 }
 
 // Bits 28..0, which must be zero in an input.
@@ -123,23 +144,12 @@ pub fn bit(w: u32, i: u32) -> u32
     (w >> i) & 1
 }
 
-// A byte as a word.
-fn wide(b: u8) -> u32
-    ensures { (result ≡ b) × (result < 256) }
-{
-    b as u32
-}
-
 // Word i of the bytes b.
 pub fn word_at(b: &[u8], i: usize) -> u32
     requires { i * 4 + 4 ≤ length b.now }
     ensures { result ≡ word_at b.now i }
 {
-    let b0 = wide(b[i * 4]);
-    let b1 = wide(b[i * 4 + 1]);
-    let b2 = wide(b[i * 4 + 2]);
-    let b3 = wide(b[i * 4 + 3]);
-    b0 * 16777216 + b1 * 65536 + b2 * 256 + b3
+    u32::from_be_bytes([b[i * 4], b[i * 4 + 1], b[i * 4 + 2], b[i * 4 + 3]])
 }
 
 // Word i of the bytes b becomes w.
@@ -147,10 +157,7 @@ pub fn put_word(b: &mut [u8], i: usize, w: u32)
     requires { i * 4 + 4 ≤ length b.old }
     ensures { b.new ≡ set_word b.old i w }
 {
-    b[i * 4] = (w >> 24) as u8;
-    b[i * 4 + 1] = ((w >> 16) % 256) as u8;
-    b[i * 4 + 2] = ((w >> 8) % 256) as u8;
-    b[i * 4 + 3] = (w % 256) as u8;
+    b[i * 4..i * 4 + 4].copy_from_slice(&w.to_be_bytes());
 }
 
 // The whole words of the bytes b go to the front of out, whose other words stay; the result is their number.

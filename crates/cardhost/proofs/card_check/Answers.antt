@@ -16,4 +16,4 @@ answer-requires c =
 
 pub returns : goal.returns
 returns c =
-    in_bytes (check_outcome _) _ c.check_counts-end.ensures (check-read _ c.card_room-ws.ensures c.read-card.ensures (check_work (room c.args.numbers.now))) c.answer.ensures
+    in_bytes (check_outcome _) _ c.check_counts-end.ensures (check-read _ c.filled-ws.ensures.0 c.read-card.ensures (check_work (room c.args.numbers.now))) c.answer.ensures

@@ -15,5 +15,5 @@ answer-requires c =
 
 pub returns : goal.returns
 returns c =
-    let same = vector-read _ _ c.card_room-ws.ensures c.vector_room-x.ensures c.read-card.ensures c.read-vector.ensures (critical_work _) in
+    let same = vector-read _ _ c.filled-ws.ensures.0 c.filled-x.ensures.0 c.read-card.ensures c.read-vector.ensures (critical_work _) in
     in_bytes (critical_outcome _ _) _ c.critical_nodes_with-end.ensures same c.answer.ensures

@@ -11,9 +11,6 @@ use Rattle.plain.specs.Calls.{values_work, fault_outcome}
 use Rattle.plain.proofs.Lists.{one-call}
 use Rattle.cardhost.proofs.card_fault_values.Goals as goal
 
-pub slice_bounds-numbers-end : goal.slice_bounds-numbers-end
-slice_bounds-numbers-end c = c.read_faults-m.ensures.fits
-
 pub answer-requires : goal.answer-requires
 answer-requires c =
     let e = c.fault_values_with-end.ensures in
@@ -21,7 +18,7 @@ answer-requires c =
 
 pub returns : goal.returns
 returns c =
-    let f = c.read_faults-m.ensures in
-    let same = vector-read _ _ c.card_room-ws.ensures c.vector_room-x.ensures c.read-card.ensures c.read-vector.ensures (values_work (fault_tests _ _ _) (faulty _))
-    ∙ one-call _ _ (fault_tests _ _ _) (fault_tests _ _ _) _ _ (f.tested _ _) (λ c s. ap faulty (f.passed _ _ c s)) in
+    let f = c.read_faults-list.ensures in
+    let same = vector-read _ _ c.filled-ws.ensures.0 c.filled-x.ensures.0 c.read-card.ensures c.read-vector.ensures (values_work (fault_tests _ _ _) (faulty _))
+    ∙ one-call _ _ (fault_tests _ _ _) (fault_tests _ _ _) _ _ (λ c. rw f.left (f.tested _ _ c)) (λ c s. ap faulty (f.passed _ _ c s)) in
     in_bytes (fault_outcome _ _ _) _ c.fault_values_with-end.ensures same c.answer.ensures

@@ -14,4 +14,4 @@ answer-requires c =
 
 pub returns : goal.returns
 returns c =
-    in_bytes (to_card_outcome _) _ c.to_card_with-end.ensures (gates-read _ _ c.card_room-ws.ensures c.read-gates.ensures) c.answer.ensures
+    in_bytes (to_card_outcome _) _ c.to_card_with-end.ensures (gates-read _ _ c.filled-ws.ensures.0 c.read-gates.ensures) c.answer.ensures

@@ -20,5 +20,5 @@ answer_both-requires c =
 
 pub returns : goal.returns
 returns c =
-    let same = list_read _ _ c.card_room-ws.ensures c.read-card.ensures (grade_work _ _) in
+    let same = list_read _ _ c.filled-ws.ensures.0 c.read-card.ensures (grade_work _ _) in
     in-bytes-both (grade_outcome _ _) _ _ c.grade_with-end.ensures same c.answer_both.ensures

@@ -15,6 +15,6 @@ answer-requires c =
 
 pub returns : goal.returns
 returns c =
-    let same = join-read _ _ _ (room c.args.card.now) c.card_room-wa.ensures c.card_room-wb.ensures c.wires_room-ws.ensures
+    let same = join-read _ _ _ (room c.args.card.now) c.filled-wa.ensures.0 c.filled-wb.ensures.0 c.filled-ws.ensures.0
     c.read-a.ensures c.read-b.ensures c.read-wires.ensures in
     in_bytes (join_outcome (of_bytes c.args.a.now) (of_bytes c.args.b.now) (of_bytes c.args.wires.now)) _ c.join_with-end.ensures same c.answer.ensures

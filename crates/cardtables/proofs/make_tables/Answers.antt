@@ -8,8 +8,8 @@ use Rattle.cardtables.proofs.make_tables.Goals as goal
 
 pub note_readers-requires : goal.note_readers-requires
 note_readers-requires c =
-    let e = c.empty_tables-tables.ensures in (
-      made-ready _ c.requires (omega (arith, c.requires.few-graphs, c.first_table-firsts.ensures)) c.first_nodes.ensures,
+    let e = c.filled-tables.ensures in (
+      made-ready _ c.requires (omega (arith, c.requires.few-graphs, c.filled-firsts.ensures.0)) c.first_nodes.ensures,
       omega (arith, e.0),
       none-noted _ e.1,
     )

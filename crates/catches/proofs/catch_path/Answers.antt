@@ -2,7 +2,7 @@ use mathlib.Core.Path.{refl}
 use native.Mathlib.Omega.{arith}
 use Rattle.layout.proofs.NodeNumbers.{walkable, node-inside, read_below, node-number-below, exit-later, exit_below}
 use Rattle.catches.proofs.ActivePath.{path-first}
-use Rattle.catches.proofs.Steps.{read-bit, path-ends, path-goes}
+use Rattle.catches.proofs.Steps.{caught-word, read-bit, path-ends, path-goes}
 use borrow.Author.Rules.{rules}
 use Rattle.catches.proofs.catch_path.Goals as goal
 
@@ -38,7 +38,7 @@ pub returns-then-e-lt2 : goal.returns-then-e-lt2
 returns-then-e-lt2 c =
     λ x p q s.
     let i = c.loop-c.invariant.2 x p q s in
-    path-ends c.requires.0 p c.requires.2 c.loop-c.invariant.0 c.first_node-first.ensures q i.0 i.1 (omega (arith, c.requires.4, c.loop-c.invariant.1)) c.decision-d.ensures c.caught_there-v.ensures c.put.ensures c.exit_at-e.ensures c.if-e-lt2.true
+    path-ends c.requires.0 p c.requires.2 c.loop-c.invariant.0 c.first_node-first.ensures q i.0 i.1 (omega (arith, c.requires.4, c.loop-c.invariant.1)) c.decision-d.ensures (caught-word _ _ c.caught_there-v.ensures c.unwrap_or.ensures) c.put.ensures c.exit_at-e.ensures c.if-e-lt2.true
 
 pub loop-c-smaller : goal.loop-c-smaller
 loop-c-smaller c =
@@ -52,6 +52,6 @@ loop-c-preserved c =
       search rules,
       λ x p q s.
           let i = c.loop-c.invariant.2 x p q s in
-          let m = path-goes c.requires.0 p c.requires.2 c.loop-c.invariant.0 c.first_node-first.ensures q i.0 i.1 (omega (arith, c.requires.4, c.loop-c.invariant.1)) c.decision-d.ensures c.caught_there-v.ensures c.put.ensures c.exit_at-e.ensures c.if-e-lt2.false in
+          let m = path-goes c.requires.0 p c.requires.2 c.loop-c.invariant.0 c.first_node-first.ensures q i.0 i.1 (omega (arith, c.requires.4, c.loop-c.invariant.1)) c.decision-d.ensures (caught-word _ _ c.caught_there-v.ensures c.unwrap_or.ensures) c.put.ensures c.exit_at-e.ensures c.if-e-lt2.false in
           (m.2, m.3),
     )

@@ -17,9 +17,9 @@ catch_vector-requires c =
       c.make_tables-tables.ensures,
       c.requires.1,
       record {
-        values-long = omega (arith, f, n, c.site_table-values.ensures);
-        walk-long = omega (arith, c.walk_room-walk.ensures);
-        caught-long = omega (arith, f, n, c.site_table-caught.ensures);
+        values-long = omega (arith, f, n, c.filled-values.ensures.0);
+        walk-long = omega (arith, c.filled-walk.ensures.0);
+        caught-long = omega (arith, f, n, c.filled-caught.ensures.0);
       },
     )
 

@@ -1,7 +1,7 @@
 -- `faultlist::test_faults` meets its contract. Assumes nothing.
 use mathlib.Core.Path.{sym, ◌∙◌}
 use native.Mathlib.Omega.{arith}
-use Rattle.faultlist.proofs.Tested.{high-told, odd-told, many-told, twice-told, short-told, none_told}
+use Rattle.faultlist.proofs.Tested.{high-told, odd-told, many-told, twice-told, room-told}
 use Rattle.faultlist.proofs.test_faults.Goals as goal
 
 pub returns-then-too_high : goal.returns-then-too_high
@@ -21,14 +21,8 @@ returns-then-site_twice c =
     let low = sym c.too_high.ensures ∙ c.if-too_high.false in
     twice-told _ _ _ _ low c.if-faults-gt0.false (omega (arith, c.if-faults-gt8.false)) (sym c.site_twice.ensures ∙ c.if-site_twice.true)
 
-pub returns-then-room-c : goal.returns-then-room-c
-returns-then-room-c c =
-    let low = sym c.too_high.ensures ∙ c.if-too_high.false in
-    let apart = sym c.site_twice.ensures ∙ c.if-site_twice.false in
-    short-told _ _ _ _ low c.if-faults-gt0.false (omega (arith, c.if-faults-gt8.false)) apart c.if-room-c.true
-
 pub returns : goal.returns
 returns c =
     let low = sym c.too_high.ensures ∙ c.if-too_high.false in
     let apart = sym c.site_twice.ensures ∙ c.if-site_twice.false in
-    none_told _ _ _ _ low c.if-faults-gt0.false (omega (arith, c.if-faults-gt8.false)) apart c.if-room-c.false
+    c.test_room.ensures ∙ room-told _ _ _ _ low c.if-faults-gt0.false (omega (arith, c.if-faults-gt8.false)) apart

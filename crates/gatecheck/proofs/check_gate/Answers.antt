@@ -39,7 +39,6 @@ returns-then-is_wrong_gate c =
       eq-eqb _ _ c.if-gate_spare-ne0.false,
       ← c.node_count-n.ensures,
       le-ltb 4096 (c.args.c.nodes + c.node_count-n.result) (omega (arith, c.if-c-n-gt-MAX_NODES.false)),
-      ← c.gate_function.ensures,
       ← c.is_wrong_gate.ensures,
       c.if-is_wrong_gate.true,
       c.requires.0,
@@ -54,7 +53,6 @@ returns c =
       eq-eqb _ _ c.if-gate_spare-ne0.false,
       ← c.node_count-n.ensures,
       le-ltb 4096 (c.args.c.nodes + c.node_count-n.result) (omega (arith, c.if-c-n-gt-MAX_NODES.false)),
-      ← c.gate_function.ensures,
       ← c.is_wrong_gate.ensures,
       c.if-is_wrong_gate.false,
     )

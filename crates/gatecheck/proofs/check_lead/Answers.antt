@@ -8,10 +8,10 @@ pub returns-then-gates-p : goal.returns-then-gates-p
 unfolding lead_verdict
 returns-then-gates-p c = rw (le-leb _ _ c.if-gates-p.true)
 
-pub returns-then-kind-ne3 : goal.returns-then-kind-ne3
+pub returns-then-not-is_kind : goal.returns-then-not-is_kind
 unfolding lead_verdict
-returns-then-kind-ne3 c =
-    rw (lt-leb _ _ c.if-gates-p.false, ← c.get-w.ensures, ← c.kind.ensures, ne_eqb _ _ c.if-kind-ne3.true)
+returns-then-not-is_kind c =
+    rw (lt-leb _ _ c.if-gates-p.false, ← c.get-w.ensures, ← c.is_kind.ensures, c.if-not-is_kind.true)
 
 pub returns-then-header_spare-ne0 : goal.returns-then-header_spare-ne0
 unfolding lead_verdict
@@ -19,8 +19,8 @@ returns-then-header_spare-ne0 c =
     rw (
       lt-leb _ _ c.if-gates-p.false,
       ← c.get-w.ensures,
-      ← c.kind.ensures,
-      eq-eqb _ _ c.if-kind-ne3.false,
+      ← c.is_kind.ensures,
+      c.if-not-is_kind.false,
       ← c.header_spare.ensures,
       ne_eqb _ _ c.if-header_spare-ne0.true,
     )
@@ -31,8 +31,8 @@ returns-then-line-read_graph c =
     rw (
       lt-leb _ _ c.if-gates-p.false,
       ← c.get-w.ensures,
-      ← c.kind.ensures,
-      eq-eqb _ _ c.if-kind-ne3.false,
+      ← c.is_kind.ensures,
+      c.if-not-is_kind.false,
       ← c.header_spare.ensures,
       eq-eqb _ _ c.if-header_spare-ne0.false,
       ← c.read_graph.ensures,
@@ -45,8 +45,8 @@ returns c =
     rw (
       lt-leb _ _ c.if-gates-p.false,
       ← c.get-w.ensures,
-      ← c.kind.ensures,
-      eq-eqb _ _ c.if-kind-ne3.false,
+      ← c.is_kind.ensures,
+      c.if-not-is_kind.false,
       ← c.header_spare.ensures,
       eq-eqb _ _ c.if-header_spare-ne0.false,
       ← c.read_graph.ensures,

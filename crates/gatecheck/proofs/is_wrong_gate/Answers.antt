@@ -1,20 +1,17 @@
 -- `gatecheck::is_wrong_gate` meets its contract. Assumes nothing.
-use borrow.Author.Tests.{lt-ltb, le-ltb, le-leb, lt-leb, eq-eqb, ne_eqb}
+use Rattle.std.proofs.Common.{rules}
+use borrow.Author.Tests.{lt-ltb}
 use Rattle.gatelist.specs.Form.{wrong_gate}
 use Rattle.gatecheck.proofs.is_wrong_gate.Goals as goal
 
-pub returns-then-f-gt5 : goal.returns-then-f-gt5
+pub returns-in-Some-Not : goal.returns-in-Some-Not
 unfolding wrong_gate
-returns-then-f-gt5 c = rw (lt-ltb _ _ c.if-f-gt5.true)
+returns-in-Some-Not c = rw c.in-Some-Not.ensures (search rules)
 
-pub returns-then-n-eq0 : goal.returns-then-n-eq0
+pub returns-in-Some : goal.returns-in-Some
 unfolding wrong_gate
-returns-then-n-eq0 c = rw (le-ltb _ _ c.if-f-gt5.false, eq-eqb _ _ c.if-n-eq0.true)
+returns-in-Some c = rw c.in-Some.ensures (search rules)
 
-pub returns-then-f-lt4 : goal.returns-then-f-lt4
+pub returns-in-None : goal.returns-in-None
 unfolding wrong_gate
-returns-then-f-lt4 c = rw (le-ltb _ _ c.if-f-gt5.false, ne_eqb _ _ c.if-n-eq0.false, lt-leb _ _ c.if-f-lt4.true)
-
-pub returns : goal.returns
-unfolding wrong_gate
-returns c = rw (le-ltb _ _ c.if-f-gt5.false, ne_eqb _ _ c.if-n-eq0.false, le-leb _ _ c.if-f-lt4.false)
+returns-in-None c = rw (lt-ltb 5 _ c.in-None.ensures)

@@ -1,4 +1,5 @@
 -- `layout::is_observable` meets its contract. Assumes nothing.
+use mathlib.Core.Path.{◌∙◌}
 use Rattle.layout.proofs.NodeNumbers.{header-in, observable-is}
 use Rattle.layout.proofs.is_observable.Goals as goal
 
@@ -7,4 +8,4 @@ get-requires c = header-in c.requires c.first_node-first.ensures
 
 pub returns : goal.returns
 returns c =
-    observable-is c.requires c.first_node-first.ensures c.get.ensures c.kind.ensures
+    c.is_kind.ensures ∙ observable-is c.requires c.first_node-first.ensures c.get.ensures

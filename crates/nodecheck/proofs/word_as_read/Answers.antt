@@ -4,14 +4,14 @@ use borrow.Author.Tests.{le-leb, lt-leb, eq-eqb, ne_eqb}
 use Rattle.form.specs.Check.{read_verdict}
 use Rattle.nodecheck.proofs.word_as_read.Goals as goal
 
-pub returns-then-kind-ne3 : goal.returns-then-kind-ne3
+pub returns-then-not-is_kind : goal.returns-then-not-is_kind
 unfolding read_verdict
-returns-then-kind-ne3 c = λ ws h e. rw (lt-leb _ _ h, ← e, ← c.kind.ensures, ne_eqb _ _ c.if-kind-ne3.true)
+returns-then-not-is_kind c = λ ws h e. rw (lt-leb _ _ h, ← e, ← c.is_kind.ensures, c.if-not-is_kind.true)
 
 pub returns-then-read_spare-ne0 : goal.returns-then-read_spare-ne0
 unfolding read_verdict
 returns-then-read_spare-ne0 c = λ ws h e.
-    rw (lt-leb _ _ h, ← e, ← c.kind.ensures, eq-eqb _ _ c.if-kind-ne3.false, ← c.read_spare.ensures, ne_eqb _ _ c.if-read_spare-ne0.true)
+    rw (lt-leb _ _ h, ← e, ← c.is_kind.ensures, c.if-not-is_kind.false, ← c.read_spare.ensures, ne_eqb _ _ c.if-read_spare-ne0.true)
 
 pub returns-then-g-read_graph : goal.returns-then-g-read_graph
 unfolding read_verdict
@@ -20,8 +20,8 @@ returns-then-g-read_graph c = λ ws h e.
     rw (
       lt-leb _ _ h,
       ← e,
-      ← c.kind.ensures,
-      eq-eqb _ _ c.if-kind-ne3.false,
+      ← c.is_kind.ensures,
+      c.if-not-is_kind.false,
       ← c.read_spare.ensures,
       eq-eqb _ _ c.if-read_spare-ne0.false,
       ← c.read_graph.ensures,
@@ -35,8 +35,8 @@ returns c = λ ws h e.
     rw (
       lt-leb _ _ h,
       ← e,
-      ← c.kind.ensures,
-      eq-eqb _ _ c.if-kind-ne3.false,
+      ← c.is_kind.ensures,
+      c.if-not-is_kind.false,
       ← c.read_spare.ensures,
       eq-eqb _ _ c.if-read_spare-ne0.false,
       ← c.read_graph.ensures,

@@ -10,7 +10,7 @@ loop-g-init c = λ x s. sym (over_none _ _)
 
 pub path_length-requires : goal.path_length-requires
 path_length-requires c =
-    let ready = made-ready _ c.requires.0 (omega (arith, c.requires.0.few-graphs, c.first_table-firsts.ensures)) c.first_nodes.ensures in
+    let ready = made-ready _ c.requires.0 (omega (arith, c.requires.0.few-graphs, c.filled-firsts.ensures.0)) c.first_nodes.ensures in
     (ready, omega (arith, length-take-le c.args.c.graphs c.args.lengths.now c.requires.2), c.requires.1)
 
 pub loop-g-preserved : goal.loop-g-preserved

@@ -1,11 +1,13 @@
 -- `report::report_counted` meets its contract. Assumes nothing.
+use Rattle.answers.specs.Answers.{number_of}
 use Rattle.report.proofs.Cases.{text-over, text-cut, text-long, text-left, text-parts}
 use Rattle.report.proofs.report_counted.Goals as goal
 
 pub returns-then-n-gt-MAX_WORDS : goal.returns-then-n-gt-MAX_WORDS
+unfolding number_of
 returns-then-n-gt-MAX_WORDS c =
     let s = c.requires in
-    rw (text-over _ s.0 (rw s.1 at c.if-n-gt-MAX_WORDS.true)) c.put_refused.ensures
+    rw (text-over _ s.0 (rw s.1 at c.if-n-gt-MAX_WORDS.true)) (rw c.from.ensures at c.put_refused.ensures)
 
 pub returns-then-input-start : goal.returns-then-input-start
 returns-then-input-start c =

@@ -1,19 +1,8 @@
--- `word32::put_word` meets its contract: its four stores are those of `set_word`. Assumes nothing.
+-- `word32::put_word` meets its contract: the four bytes copied are those of `set_word`. Assumes nothing.
 use native.Mathlib.Omega.{arith}
-use borrow.Author.Rules.{rules}
-use lib.ListN.{length-set}
-use Rattle.word32.specs.Bytes.{set_word}
+use Rattle.word32.proofs.Bytes.{word-copied}
 use Rattle.word32.proofs.put_word.Goals as goal
 
 pub returns : goal.returns
-unfolding set_word
-returns c = search rules
-
-pub bounds-b-i-2 : goal.bounds-b-i-2
-bounds-b-i-2 c = simp length-set (omega arith)
-
-pub bounds-b-i-3 : goal.bounds-b-i-3
-bounds-b-i-3 c = simp length-set (omega arith)
-
-pub bounds-b-i-4 : goal.bounds-b-i-4
-bounds-b-i-4 c = simp length-set (omega arith)
+returns c =
+    rw (c.copy_from_slice.ensures.after, c.to_be_bytes.ensures) (word-copied c.args.b.now c.args.i c.args.w _ c.requires c.ranges.w.fits (omega arith))
