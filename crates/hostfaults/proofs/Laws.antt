@@ -85,7 +85,7 @@ module _ (b : List ℕ) {out : List ℕ} {l n : ℕ} (nine : 9 ≡ l) (w : Words
         | no k ↦ omega arith
       ] in
       let e : take n out ≡ ws = front ∙ take_all 9 ws (omega (arith, short)) in
-      record { left = refl; tested = λ extra room c. rw e; passed = λ extra room c s. e }
+      record { fits = omega (arith, ap length e, short); left = refl; tested = λ extra room c. rw e; passed = λ extra room c s. e }
 
   -- a longer one
   pub many_read : n ≡ 9 → {v : ℕ} → Highest b (get_or out 8 0) v → FaultsRead b (lent (take n (set out 8 v)) (length b % 4))
@@ -105,6 +105,7 @@ module _ (b : List ℕ) {out : List ℕ} {l n : ℕ} (nine : 9 ≡ l) (w : Words
       ap (too_high F) (take-suc-set out 8 v (omega arith)) ∙ high_parts F (take 8 out) (v ∷ [])
       ∙ rw (t, high_one F v, high.tells F, g) (sym (ap (too_high F) (sym (take-append-drop 8 ws)) ∙ high_parts F (take 8 ws) (drop 8 ws) ∙ rw (drop-cons ws 8 0 (omega arith), high-head F (get_or ws 8 0) (drop 9 ws)))) in
       rw z (record {
+        fits = omega (arith, l9);
         left = refl;
         tested = λ extra room c. many-tested extra (take 9 (set out 8 v)) ws room c (same c.faults) (omega arith) (omega arith);
         passed = λ extra room c s. absurd (omega (arith, few-passed extra ws room c s));

@@ -1,13 +1,14 @@
 -- A list of faults read from bytes. No contract of a call cites it. Assumes nothing.
-use Rattle.std.specs.Prelude.{ℕ, ◌%◌, ◌≡◌, List, ◌||◌, length, drop, leb, Ok}
+use Rattle.std.specs.Prelude.{ℕ, ◌%◌, ◌≤◌, ◌≡◌, List, ◌||◌, length, drop, leb, Ok}
 use Rattle.word32.specs.Bytes.{words_of}
 use Rattle.answers.specs.declared.Counts.{Counts}
 use Rattle.answers.specs.Calls.{Lent}
 use Rattle.answers.specs.Tests.{first_broken}
 use Rattle.faultlist.specs.Faults.{too_high, fault_tests}
 
--- the tests say of the numbers lent what they say of the list in the bytes b; and where that list passes, the numbers are the list
+-- nine numbers are lent at most; the tests say of them what they say of the list in the bytes b; and where that list passes, the numbers are the list
 pub record FaultsRead (b : List ℕ) (l : Lent) : Type 0 where
+  pub fits : length l.words ≤ 9
   pub left : l.extra ≡ length b % 4
   pub tested : (extra room : ℕ) (c : Counts) → first_broken (fault_tests extra l.words room c) ≡ first_broken (fault_tests extra (words_of b) room c)
   pub passed : (extra room : ℕ) (c : Counts) → first_broken (fault_tests extra (words_of b) room c) ≡ Ok tt → l.words ≡ words_of b

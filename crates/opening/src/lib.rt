@@ -1,5 +1,5 @@
-// How a call on a card opens: the card is checked, and then the form of the call's vectors, one or a list. `extra` and `left` tell how many bytes follow
-// the words of the card and of the vector that make no word.
+// How a call on a card opens: the card is checked, and then the form of the call's vectors, one or a list. A card, and one vector, are lent with how many bytes
+// follow their words that make no word.
 #![tactic(auto)]
 
 ghost use Rattle.std.specs.Prelude.{◌≡◌};
