@@ -49,6 +49,7 @@ pub fn next(words: &[u32], base: usize, start: usize, end: usize) -> usize
     requires { (end ≤ 1024) × (base + 32 ≤ length words.now) }
     ensures { Next words.now base start end result }
 {
+    // by hand: it leaps from word to word, and there is no heap for a set of the library's
     let mut i = start;
     while i < end {
         let rest = lists::get(words, base + i / 32) >> (i % 32) as u32;

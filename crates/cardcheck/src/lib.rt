@@ -39,7 +39,7 @@ pub fn check_input(w: u32, at: usize, c: Counts) -> Result<(), Refusal>
     Ok(())
 }
 
-// An output's header.
+// An output's header. By itself: two of its four tests are not those of a gate's header.
 fn check_output(w: u32, at: usize, c: Counts) -> Result<(), Refusal>
     requires { (at ≡ card_length c) × (c.nodes ≤ max_nodes) }
     ensures { result ≡ first_broken (output_tests w c) }

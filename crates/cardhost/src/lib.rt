@@ -1,5 +1,6 @@
 // The calls for the fixture's host, in C: cards, vectors, lists of faults, wires and buffers are bytes, each word four of them, highest byte first, and
-// the answer is one 64-bit number. What is lent is read into words, the call is the one by words, and its words are written as bytes.
+// the answer is one 64-bit number. What is lent is read into words, the call is the one by words, and its words are written as bytes. There are eight
+// functions since C calls each by its name.
 #![tactic(auto)]
 
 ghost use Rattle.inbytes.specs.Calls.{of_bytes, InBytes, InBytesBoth};

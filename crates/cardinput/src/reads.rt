@@ -10,7 +10,8 @@ ghost use Rattle.cardinput.specs.Known.{FrontOf};
 use std::io;
 use std::io::{ErrorKind, Read};
 
-// What one read answered: so many bytes, one or more; none, at the end of the input; or that it failed, and why.
+// What one read answered: so many bytes, one or more; none, at the end of the input; or that it failed, and why. An enum of its own, since these are three,
+// and the law `whole-input` speaks of the end by its name.
 #[derive(Clone, Copy)]
 pub enum Answer {
     Bytes(usize),

@@ -101,7 +101,7 @@ fn catch_nodes(
     catch_path(card, c, tables, values, g, caught);
 }
 
-// What is caught at a graph of value v, if it is critical.
+// What is caught at a graph of value v, if it is critical. That it is, is a fact told once and used twice, with no value beside it.
 fn caught_whole(v: u32, alters: bool) -> Option<u32>
     requires { v < 2 }
     ensures { result ≡ cond alters (Some (1 - v)) None }

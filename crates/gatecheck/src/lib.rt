@@ -23,7 +23,7 @@ fn is_wrong_gate(w: u32, n: usize) -> bool
     }
 }
 
-// A gate's header.
+// A gate's header. By itself: two of its four tests are not those of an output's header.
 fn check_gate(w: u32, at: usize, c: Counts) -> Result<(), Refusal>
     requires { (at ≡ gate_list_length c) × (c.nodes ≤ max_nodes) }
     ensures { result ≡ first_broken (gate_tests w c) }

@@ -53,7 +53,7 @@ fn is_misplaced(n: usize, k: usize, e: usize) -> bool
     n + 2 <= e
 }
 
-// The word w at a place, as the exits of local node k in a graph of n nodes.
+// The word w at a place, as the exits of local node k in a graph of n nodes. By itself: its tests are not a read's.
 fn word_as_exits(w: u32, at: usize, n: usize, k: usize) -> Result<(usize, usize), Refusal>
     requires { (n ≤ max_nodes) × (k < n) }
     ensures { ExitsWord w at n k result }

@@ -19,7 +19,7 @@ pub fn open_vector(card: Lent<'_>, vector: Lent<'_>) -> Result<Counts, Refusal>
     Ok(c)
 }
 
-// A card and a list of vectors.
+// A card and a list of vectors. By itself: one function over the form of what follows would be no shorter than the two.
 pub fn open_list(card: Lent<'_>, list: VectorList<'_>) -> Result<Counts, Refusal>
     ensures { result ≡ opened_list (lends card.entry) (lent_list list.entry) }
 {
