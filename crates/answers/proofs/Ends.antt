@@ -16,7 +16,8 @@ use Rattle.answers.specs.Answers.{Answer}
 use Rattle.answers.specs.declared.Refusal.{Refusal}
 use Rattle.answers.specs.Tests.{first_broken}
 use Rattle.answers.specs.Calls.{Outcome, Work, following, outcome}
-use Rattle.answers.specs.Ends.{Ended, end_done, Filled, EndsAs, EndsBoth}
+use Rattle.answers.specs.declared.Ending.{Ending}
+use Rattle.answers.specs.Ends.{ending, end_done, Filled, EndsAs, EndsBoth}
 
 -- no words
 filled_none : (room : ℕ) (b : List ℕ) → Filled [] room 0 b b
@@ -40,42 +41,42 @@ pub filled-room : {ws before out : List ℕ} {room n : ℕ} → Filled ws room n
 filled-room w = omega (arith, w.count, w.fits)
 
 module _ (a : Answer) (f : Counts → Work) (room : ℕ) (b : List ℕ) where
-  pub stops : {r : Refusal} → a ≡ Err r → EndsAs (outcome a f) room (Err r) b b
+  pub stops : {r : Refusal} → a ≡ Err r → EndsAs (outcome a f) room (ending (Err r)) b b
   unfolding outcome following
   stops e = rw e (record { reply = refl; filled = filled_none room b })
 
   module _ {c : Counts} (e : a ≡ Ok c) where
-    pub breaks : {r : Refusal} → first_broken (f c).tests ≡ Err r → EndsAs (outcome a f) room (Err r) b b
+    pub breaks : {r : Refusal} → first_broken (f c).tests ≡ Err r → EndsAs (outcome a f) room (ending (Err r)) b b
     unfolding outcome following
     breaks q = rw (e, q) (record { reply = refl; filled = filled_none room b })
 
     pub finishes : first_broken (f c).tests ≡ Ok tt → {n k m : ℕ} {d : List ℕ} → n ≡ (f c).number → Filled (f c).words room k b d
-        → EndsAs (outcome a f) room (end_done n k m) b d
+        → EndsAs (outcome a f) room (ending (end_done n k m)) b d
     unfolding outcome following
     finishes q n w = rw (e, q, n) (record { reply = refl; filled = w })
 
   -- with a second buffer
   module _ (room' : ℕ) (d : List ℕ) where
-    pub both-stop : {r : Refusal} → a ≡ Err r → EndsBoth (outcome a f) room room' (Err r) b d b d
+    pub both-stop : {r : Refusal} → a ≡ Err r → EndsBoth (outcome a f) room room' (ending (Err r)) b d b d
     unfolding outcome following
     both-stop e = record { first = stops e; second = rw e (filled_none room' d) }
 
     module _ {c : Counts} (e : a ≡ Ok c) where
-      pub both-break : {r : Refusal} → first_broken (f c).tests ≡ Err r → EndsBoth (outcome a f) room room' (Err r) b d b d
+      pub both-break : {r : Refusal} → first_broken (f c).tests ≡ Err r → EndsBoth (outcome a f) room room' (ending (Err r)) b d b d
       unfolding outcome following
       both-break q = record { first = breaks e q; second = rw (e, q) (filled_none room' d) }
 
       pub both_end : first_broken (f c).tests ≡ Ok tt → {n k m : ℕ} {b' d' : List ℕ} → n ≡ (f c).number → Filled (f c).words room k b b'
-          → Filled (f c).more room' m d d' → EndsBoth (outcome a f) room room' (end_done n k m) b d b' d'
+          → Filled (f c).more room' m d d' → EndsBoth (outcome a f) room room' (ending (end_done n k m)) b d b' d'
       unfolding outcome following
       both_end q n w v = record { first = finishes e q n w; second = rw (e, q) v }
 
 -- a call that follows another check, which is refused or goes on
 module _ (a : Answer) (f : Counts → Outcome) (room : ℕ) (b : List ℕ) where
-  pub first_stops : {r : Refusal} → a ≡ Err r → EndsAs (following a f) room (Err r) b b
+  pub first_stops : {r : Refusal} → a ≡ Err r → EndsAs (following a f) room (ending (Err r)) b b
   unfolding following
   first_stops e = rw e (record { reply = refl; filled = filled_none room b })
 
-  pub first_goes : {c : Counts} {r : Ended} {d : List ℕ} → a ≡ Ok c → EndsAs (f c) room r b d → EndsAs (following a f) room r b d
+  pub first_goes : {c : Counts} {r : Ending} {d : List ℕ} → a ≡ Ok c → EndsAs (f c) room r b d → EndsAs (following a f) room r b d
   unfolding following
   first_goes e w = rw e w

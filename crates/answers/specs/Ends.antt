@@ -4,6 +4,7 @@ use Rattle.lists.specs.Tables.{front}
 use Rattle.answers.specs.declared.Refusal.{Refusal}
 use Rattle.answers.specs.Answers.{Reply, stands_at}
 use Rattle.answers.specs.declared.Done.{Done}
+use Rattle.answers.specs.declared.Ending.{Ending}
 use Rattle.answers.specs.Calls.{Lent, lent, Outcome}
 
 -- how a worker ends: done, or refused
@@ -13,7 +14,7 @@ Ended = Result Done Refusal
 abbrev pub end_done : ℕ → ℕ → ℕ → Ended
 end_done number words more = Ok (record { number = number; words = words; more = more })
 
--- the reply, and how many words went to the buffer and to a second one: a refusal writes none
+-- the same part by part: the reply, and how many words went to the buffer and to a second one. A refusal writes none
 abbrev pub reply_of : Ended → Reply
 reply_of (Ok d) = Ok d.number
 reply_of (Err r) = Err r
@@ -26,6 +27,9 @@ abbrev pub written_more : Ended → ℕ
 written_more (Ok d) = d.more
 written_more (Err r) = 0
 
+abbrev pub ending : Ended → Ending
+ending r = record { reply = reply_of r; words = written r; more = written_more r }
+
 -- n words, which fit a buffer of `room`, stand at the front of a buffer
 pub record Filled (words : List ℕ) (room n : ℕ) (before after : List ℕ) : Type 0 where
   pub count : n ≡ length words
@@ -33,13 +37,13 @@ pub record Filled (words : List ℕ) (room n : ℕ) (before after : List ℕ) : 
   pub buffer : after ≡ front words before
 
 -- the worker ended with the outcome's reply and words; and with two buffers
-pub record EndsAs (o : Outcome) (room : ℕ) (r : Ended) (before after : List ℕ) : Type 0 where
-  pub reply : reply_of r ≡ o.reply
-  pub filled : Filled o.words room (written r) before after
+pub record EndsAs (o : Outcome) (room : ℕ) (r : Ending) (before after : List ℕ) : Type 0 where
+  pub reply : r.reply ≡ o.reply
+  pub filled : Filled o.words room r.words before after
 
-pub record EndsBoth (o : Outcome) (room room' : ℕ) (r : Ended) (b d b' d' : List ℕ) : Type 0 where
+pub record EndsBoth (o : Outcome) (room room' : ℕ) (r : Ending) (b d b' d' : List ℕ) : Type 0 where
   pub first : EndsAs o room r b b'
-  pub second : Filled o.more room' (written_more r) d d'
+  pub second : Filled o.more room' r.more d d'
 
 -- a refusal's position has a place in 64 bits beside the rule's number
 abbrev pub Stands : Reply → Type 0

@@ -5,6 +5,7 @@
 ghost use Rattle.std.specs.Prelude.{◌≡◌};
 ghost use Rattle.answers.specs.Answers.{number_of};
 ghost use Rattle.answers.specs.Tests.{first_broken, room_test, room_tests};
+ghost use Rattle.answers.specs.Ends.{ending};
 
 // The limits of a card and of a list of vectors; specs/Limits.antt has the same.
 pub const MAX_GRAPHS: usize = 1024;
@@ -84,6 +85,34 @@ pub struct Done {
     pub number: usize,
     pub words: usize,
     pub more: usize,
+}
+
+// How a call ended, part by part: its reply, and how many words it wrote to the front of its buffer, and of a second one.
+#[derive(Clone, Copy, PartialEq, Eq, Debug)]
+pub struct Ending {
+    pub reply: Result<usize, Refusal>,
+    pub words: usize,
+    pub more: usize,
+}
+
+// Of a worker that is done, or refused: then it wrote none.
+impl From<Result<Done, Refusal>> for Ending {
+    ghost from_gives = { λ r e. e ≡ ending r };
+
+    fn from(end: Result<Done, Refusal>) -> Ending {
+        match end {
+            Ok(done) => Ending {
+                reply: Ok(done.number),
+                words: done.words,
+                more: done.more,
+            },
+            Err(refusal) => Ending {
+                reply: Err(refusal),
+                words: 0,
+                more: 0,
+            },
+        }
+    }
 }
 
 // A rule's number: 1 to 12 in document 01, from 13 on in document 02.

@@ -95,6 +95,9 @@ member-set : {zs : List ℕ} (ys : List ℕ) (base i v : ℕ) → base + i / 32 
 unfolding member
 member-set ys base i v h z = rw (z, get_or-set_same ys (base + i / 32) v 0 h) refl
 
+gains-none : (base : ℕ) (xs : List ℕ) → Gains base xs xs
+gains-none base xs = record { kept = λ at i. omega arith; below = λ i h. refl }
+
 gains-then : {base : ℕ} {xs ys zs : List ℕ} → Gains base xs ys → Gains base ys zs → Gains base xs zs
 gains-then g h = record {
   kept = λ at i. omega (arith, g.kept at i, h.kept at i);
@@ -124,6 +127,9 @@ pub record Merged (rows : List ℕ) (from lo w base : ℕ) (xs ys : List ℕ) : 
   pub gains : Gains base xs ys
   pub has : (i : ℕ) → lo ≤ i / 32 → i / 32 < w → member rows from i ≤ member ys base i
 
+pub merge_none : (rows : List ℕ) (from lo base : ℕ) (xs : List ℕ) → Merged rows from lo lo base xs xs
+merge_none rows from lo base xs = record { long = refl; gains = gains-none base xs; has = λ i p q. absurd (omega arith) }
+
 pub merge-more : {rows : List ℕ} {from lo w base more had : ℕ} {xs ys zs : List ℕ} → Merged rows from lo w base xs ys → base + w < length ys
     → more ≡ get_or rows (from + w) 0 → had ≡ get_or ys (base + w) 0 → zs ≡ set ys (base + w) (bit_or had more) → Merged rows from lo (w + 1) base xs zs
 unfolding member
@@ -137,6 +143,16 @@ merge-more {rows} {from} {lo} {w} {base} {more} {had} {xs} {ys} {zs} m h e f z =
         | no n ↦ omega (arith, m.has i p (omega arith), one.kept base i)
       ];
     }
+
+-- ---- words cleared, one by one
+
+pub record Emptied (base w : ℕ) (xs ys : List ℕ) : Type 0 where
+  pub long : length ys ≡ length xs
+  pub below : (i : ℕ) → i < base → get_or ys i 0 ≡ get_or xs i 0
+  pub none : (i : ℕ) → i / 32 < w → member ys base i ≡ 0
+
+pub clear_none : (base : ℕ) (xs : List ℕ) → Emptied base 0 xs xs
+clear_none base xs = record { long = refl; below = λ i h. refl; none = λ i h. absurd (omega arith) }
 
 -- ---- words filled with 0
 
@@ -168,6 +184,9 @@ member-rest words base i k p q =
 pub record Passed (words : List ℕ) (base start end i : ℕ) : Type 0 where
   pub onward : start ≤ i
   pub none : (k : ℕ) → start ≤ k → k < i → k < end → member words base k ≡ 0
+
+pub passed_none : (words : List ℕ) (base start end : ℕ) → Passed words base start end start
+passed_none words base start end = record { onward = omega arith; none = λ i p q r. absurd (omega arith) }
 
 -- where the word has no number from i on, the search goes on to the next word
 pub passed-more : {words : List ℕ} {base start end i w : ℕ} → Passed words base start end i → w ≡ get_or words (base + i / 32) 0 → w / 2 ^ (i % 32) ≡ 0

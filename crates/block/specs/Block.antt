@@ -1,5 +1,5 @@
 -- A block of vectors taken in by the running result. No contract of a public call cites these. Assumes nothing.
-use Rattle.std.specs.Prelude.{ℕ, ◌+◌, ◌*◌, ◌<◌, ◌≤◌, ◌≡◌, min, List, Bool, length, get_or}
+use Rattle.std.specs.Prelude.{ℕ, ◌+◌, ◌*◌, ◌<◌, ◌≤◌, ◌≡◌, List, Bool, length, get_or}
 use Rattle.lists.specs.Tables.{over, always}
 use Rattle.answers.specs.declared.Counts.{Counts}
 use Rattle.answers.specs.Limits.{max_vectors}
@@ -19,12 +19,11 @@ pub record GradedBy (catches : ℕ → ℕ → Bool) (F t : ℕ) (xs us ys ts : 
 abbrev pub block_vectors : ℕ
 block_vectors = 64
 
--- where the block that starts at vector t of n ends: it has some vectors, and 64 at most, and fewer only where no more are left
+-- where the block that starts at vector t of n ends: it has some vectors, and 64 at most
 pub record BlockEnd (t n e : ℕ) : Type 0 where
   pub some : t < e
   pub inside : e ≤ n
   pub few : e ≤ t + block_vectors
-  pub least : e ≡ min (t + block_vectors) n
 
 -- a block of whole vectors, the first of which is vector t
 pub record Block (c : Counts) (vs : List ℕ) (t : ℕ) : Type 0 where

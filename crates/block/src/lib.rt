@@ -1,12 +1,12 @@
 // A block of vectors taken in by the running result of a grading, one vector after the other.
 #![tactic(auto)]
 
-ghost use Rattle.std.specs.Prelude.{◌≤◌, ◌<◌, length};
+ghost use Rattle.std.specs.Prelude.{◌≡◌, ◌+◌, ◌≤◌, ◌<◌, min, length};
 ghost use Rattle.cardtables.specs.Stems.{in_grade};
 ghost use Rattle.cardtables.specs.Tables.{Tabled};
 ghost use Rattle.testvectors.specs.Vectors.{vectors as many};
 ghost use Rattle.running.specs.Running.{Counted};
-ghost use Rattle.block.specs.Block.{BlockEnd, Block, TookIn, Begun};
+ghost use Rattle.block.specs.Block.{block_vectors, BlockEnd, Block, TookIn, Begun};
 
 use answers::{Counts, MAX_SITES, UNMARKED};
 use cardtables::Tables;
@@ -29,7 +29,7 @@ pub const BLOCK: usize = 64;
 // Where the block ends that starts at vector t of n: after 64 vectors, or after the last.
 pub fn block_end(t: usize, n: usize) -> usize
     requires { t < n }
-    ensures { BlockEnd t n result }
+    ensures { BlockEnd t n result × (result ≡ min (t + block_vectors) n) }
 {
     t + BLOCK.min(n - t)
 }

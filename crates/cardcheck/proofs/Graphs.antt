@@ -8,7 +8,7 @@ use native.Mathlib.Omega.{arith}
 use Rattle.reader.specs.Due.{Due, due_at, after_at}
 use Rattle.reader.proofs.Laws.{due-word, after-word}
 use Rattle.answers.specs.declared.Counts.{Counts}
-use Rattle.std.specs.Prelude.{Option, None, Result, Ok, Err}
+use Rattle.std.specs.Prelude.{Option, None, Some, Result, Ok, Err}
 use Rattle.answers.specs.declared.Refusal.{Refusal}
 use Rattle.answers.specs.Answers.{Verdict, Answer}
 use Rattle.form.specs.Check.{counts, word, card_length, with_graph, graph_verdict, rest}
@@ -30,6 +30,12 @@ pub record Going (ws : List ℕ) (extra : ℕ) (c : Counts) (p : ℕ) (tb : List
   pub shape : Shape ws c
   pub blanks : Blank tb
   pub same : answer_from ws extra c ≡ all ws extra
+
+-- what a part told ends the check with the answer a: no graph is due, and those that c counts are accepted; or the card is refused
+abbrev pub IsOver : Counts → Result (Option Header) Refusal → Answer → Type 0
+IsOver c (Ok None) a = a ≡ Ok c
+IsOver c (Ok (Some h)) a = ⊥
+IsOver c (Err r) a = a ≡ Err r
 
 module _ (ws : List ℕ) (extra : ℕ) where
   pub begin : (t : List ℕ) → Blank t → Going ws extra (counts 0 0 0 0) 0 t
@@ -53,11 +59,16 @@ module _ (ws : List ℕ) (extra : ℕ) where
     pub may-open : (c.nodes ≤ 4096) × DueAfter d c
     may-open = (i.shape.few-nodes, λ w at e. (due-word ws (card_length c) w at (sym here ∙ e)).2)
 
-    pub over-now : (r : Result (Option Header) Refusal) → OpeningTold d c extra r → r ≡ Ok None → Ok c ≡ all ws extra
-    over-now r told e = sym (told.over ws i.shape here e) ∙ i.same
+    pub ends-now : (r : Result (Option Header) Refusal) → OpeningTold d c extra r → r ≡ Ok None → Ok c ≡ all ws extra
+    ends-now r told e = sym (told.over ws i.shape here e) ∙ i.same
 
     pub stops-now : (r : Result (Option Header) Refusal) → OpeningTold d c extra r → (e : Refusal) → r ≡ Err e → Err e ≡ all ws extra
     stops-now r told e q = sym (told.stops ws i.shape here e q) ∙ i.same
+
+    pub over-now : (r : Result (Option Header) Refusal) → OpeningTold d c extra r → (a : Answer) → IsOver c r a → a ≡ all ws extra
+    over-now (Ok None) told a e = e ∙ ends-now _ told refl
+    over-now (Err r) told a e = e ∙ stops-now _ told r refl
+    over-now (Ok (Some h)) told a e = absurd e
 
   -- a graph was opened with the header h, and its nodes told r, with the reader then at m and the table zs
   module _ {c : Counts} {p : ℕ} {tb : List ℕ} (i : Going ws extra c p tb) (h : Header) (o : Opened ws c h) where

@@ -8,8 +8,8 @@ use lib.ListN.{length}
 use borrow.Author.Tests.{le-leb, lt-leb, lt-ltb, le-ltb}
 use Rattle.word32.specs.Fields.{node_count}
 use Rattle.answers.specs.declared.Counts.{Counts}
-use Rattle.std.specs.Prelude.{Ok, Err}
-use Rattle.answers.specs.Answers.{Verdict, refused}
+use Rattle.std.specs.Prelude.{Option, Result, Ok, Err}
+use Rattle.answers.specs.Answers.{Verdict, Answer, refused}
 use Rattle.answers.specs.declared.Refusal.{Refusal}
 use Rattle.answers.specs.declared.Rule.TheVariants.{CardTooLong, NodeNotNamed}
 use Rattle.answers.proofs.Tests.{onward-accepts}
@@ -43,7 +43,13 @@ module _ {ws : List ℕ} {c : Counts} {h : Header} {v : Verdict} {t : List ℕ} 
     unfolding graph_verdict
     graph-sound u = rw (nr.opened.sound, ← has, ← nr.verdict, e, u)
 
--- what a part hands back
+-- what a part hands back: two refusals that are handed back as one are one
+pub same_over : (a b : Refusal) → ◌≡◌ {A = Result (Option Header) Refusal} (Err a) (Err b) → a ≡ b
+same_over a b e = cc
+
+pub same_end : (a b : Refusal) → ◌≡◌ {A = Answer} (Err a) (Err b) → a ≡ b
+same_end a b e = cc
+
 pub graph-opened : (v : Verdict) (w at : ℕ) (h : Header) → opening_of v w at ≡ Ok h → (v ≡ Ok tt) × (h ≡ header_of w at)
 unfolding opening_of
 graph-opened (Ok tt) w at h e = (refl, cc)

@@ -6,7 +6,7 @@ ghost use Rattle.lists.specs.Tables.{front};
 ghost use Rattle.answers.specs.Limits.{max_faults};
 ghost use Rattle.answers.specs.Answers.{values_of};
 ghost use Rattle.answers.specs.Calls.{lends};
-ghost use Rattle.answers.specs.Ends.{EndsAs};
+ghost use Rattle.answers.specs.Ends.{ending, EndsAs};
 ghost use Rattle.cardcounts.specs.Calls.{check_outcome};
 
 use answers::{Counts, Done, Lent, Refusal};
@@ -28,7 +28,7 @@ fn put_counts(c: Counts, numbers: &mut [u32])
 // The check of a card, with its numbers at the front of a buffer, for one of `room` words.
 pub fn check_counts(card: Lent<'_>, room: usize, numbers: &mut [u32]) -> Result<Done, Refusal>
     requires { min room 5 ≤ length numbers.old }
-    ensures { EndsAs (check_outcome (lends card.entry) room) room result numbers.old numbers.new }
+    ensures { EndsAs (check_outcome (lends card.entry) room) room (ending result) numbers.old numbers.new }
 {
     let c = cardcheck::check_lent(card)?;
     answers::test_room(5, room)?;

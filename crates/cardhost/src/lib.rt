@@ -25,7 +25,7 @@ pub extern "C" fn card_check(card: &[u8], numbers: &mut [u8]) -> u64
     let mut out = [0u32; 5];
     let card = inbytes::read(card, &mut ws);
     let end = cardcounts::check_counts(card, numbers.len() / 4, &mut out);
-    inbytes::answer(end, &out, numbers)
+    inbytes::answer_of(end, &out, numbers)
 }
 
 // Good values: one word 0 or 1 for each graph; those of the empty list of faults.
@@ -53,11 +53,11 @@ pub extern "C" fn card_fault_values(
     let mut x = lists::filled::<VECTOR_ROOM>(0);
     let mut numbers = lists::filled::<FAULTS_ROOM>(0);
     let mut out = lists::filled::<MAX_GRAPHS>(0);
-    let list = hostfaults::read_faults(faults, &mut numbers);
+    let list = hostfaults::lend_faults(faults, &mut numbers);
     let card = inbytes::read(card, &mut ws);
     let vector = inbytes::read(vector, &mut x);
     let end = plain::fault_values_with(card, vector, list, values.len() / 4, &mut out);
-    inbytes::answer(end, &out, values)
+    inbytes::answer_of(end, &out, values)
 }
 
 // The change list of a graph: its length, and the numbers rising in the front of the buffer.
@@ -72,7 +72,7 @@ pub extern "C" fn card_change_list(card: &[u8], vector: &[u8], graph: u32, list:
     let card = inbytes::read(card, &mut ws);
     let vector = inbytes::read(vector, &mut x);
     let end = changes::change_list_with(card, vector, graph, list.len() / 4, &mut out);
-    inbytes::answer(end, &out, list)
+    inbytes::answer_of(end, &out, list)
 }
 
 // Critical nodes: one word for each node, 1 where forcing its other exit alters an observable graph, else 0.
@@ -87,7 +87,7 @@ pub extern "C" fn card_critical_nodes(card: &[u8], vector: &[u8], nodes: &mut [u
     let card = inbytes::read(card, &mut ws);
     let vector = inbytes::read(vector, &mut x);
     let end = changes::critical_nodes_with(card, vector, nodes.len() / 4, &mut out);
-    inbytes::answer(end, &out, nodes)
+    inbytes::answer_of(end, &out, nodes)
 }
 
 // The grading: for each fault its mark, C0000000 if no vector catches it, else E0000000 plus the number of the earliest that does; its tally, the number of
@@ -114,7 +114,7 @@ pub extern "C" fn card_grade(
         &mut out,
         &mut more,
     );
-    inbytes::answer_both(end, &out, &more, marks, tallies)
+    inbytes::answer_both_of(end, &out, &more, marks, tallies)
 }
 
 // Two cards wired together: the number of the joined card's words, which stand in the front of the buffer.
@@ -131,7 +131,7 @@ pub extern "C" fn card_join(a: &[u8], b: &[u8], wires: &[u8], card: &mut [u8]) -
     let b = inbytes::read(b, &mut wb);
     let wires = inbytes::read(wires, &mut ws);
     let end = join::join_with(a, b, wires, card.len() / 4, &mut out);
-    inbytes::answer(end, &out, card)
+    inbytes::answer_of(end, &out, card)
 }
 
 // A gate list turned into a card: the number of the card's words, which stand in the front of the buffer.
@@ -143,5 +143,5 @@ pub extern "C" fn card_from_gates(gates: &[u8], card: &mut [u8]) -> u64
     let mut out = lists::filled::<MAX_WORDS>(0);
     let gates = inbytes::read(gates, &mut ws);
     let end = gates::to_card_with(gates, card.len() / 4, &mut out);
-    inbytes::answer(end, &out, card)
+    inbytes::answer_of(end, &out, card)
 }

@@ -90,11 +90,14 @@ fn read_some<R: Read>(reader: &mut R, room: &mut [u8]) -> io::Result<usize>
     ensures moved { ReadsAtMost result room.new }
     ensures gave { ReadConsumes (R.remaining reader.old) (R.remaining reader.new) result room.new }
 {
-    'tries: for _ in 0..99 {
+    // counted by hand: a range that counts the tries could not be planted to try for ever (must-fail/tried_for_ever)
+    let mut tries: usize = 0;
+    while tries < 99 {
         match reader.read(room) {
             Err(error) if error.kind() == ErrorKind::Interrupted => {}
             answer => return answer,
         }
+        tries += 1;
     }
     reader.read(room)
 }

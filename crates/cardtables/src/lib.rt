@@ -29,12 +29,20 @@ const TABLES: usize = GRADE + MAX_SITES;
 // What a word for an only reader is where several nodes read the graph.
 const SEVERAL: u32 = MAX_NODES as u32 + 1;
 
+// The number of the only node that reads graph r, plus 1; 0 where none does, and `SEVERAL`, which is above all of these, where several do.
+pub fn sole_reader(tables: &[u32], r: usize) -> u32
+    requires { (r < max_graphs) × (grade_from ≤ length tables.now) }
+    ensures { result ≡ get_or tables.now (sole_of r) 0 }
+{
+    lists::get(tables, SOLE + r)
+}
+
 // The only node that reads graph r, or none where no node does, or several do.
 pub fn only_reader(tables: &[u32], r: usize) -> Option<usize>
     requires { (r < max_graphs) × (grade_from ≤ length tables.now) }
     ensures { result ≡ only_in (get_or tables.now (sole_of r) 0) }
 {
-    let word = lists::get(tables, SOLE + r);
+    let word = sole_reader(tables, r);
     if 0 < word && word < SEVERAL {
         return Some(word as usize - 1);
     }
@@ -69,7 +77,7 @@ fn note_node(card: &[u32], h: usize, j: usize, tables: &mut [u32])
 {
     let read = layout::graph_read(card, h, j);
     bitset::put(tables, readers_of(read), h);
-    let had = lists::get(tables, SOLE + read);
+    let had = sole_reader(tables, read);
     lists::put(tables, SOLE + read, sole_with(had, j));
 }
 

@@ -31,7 +31,7 @@ detections-node {ws} {c} a t j h =
     rw e at (t.nodes g (j - first ws g) (omega arith) o.0 (omega (arith, o.1, o.2)))
 
 -- a word of the tables that tells an only reader
-sole-both : (p : ℕ) → is_only p ≡ true → (0 < p) × (p < 4097)
+pub sole-both : (p : ℕ) → is_only p ≡ true → (0 < p) × (p < 4097)
 sole-both p e = (ltb-true 0 p (and_elim_left (ltb 0 p) (ltb p 4097) e), ltb-true p 4097 (and_elim_right (ltb 0 p) (ltb p 4097) e))
 
 pub only-told : (p : ℕ) {j : ℕ} → Some j ≡ only_in p → (0 < p) × (p < 4097) × (j ≡ p - 1)

@@ -1,25 +1,40 @@
 -- The steps of a change walk, said of the definitions. Assumes nothing.
-use Prim.Native.Nat.{ℕ, ◌+◌, ◌-◌, ◌<◌, ◌≤◌}
+use Prim.Native.Nat.{ℕ, ◌+◌, ◌-◌, ◌*◌, ◌<◌, ◌≤◌}
 use mathlib.Core.Path.{◌≡◌, sym, ap, ◌∙◌}
 use mathlib.Core.List.{List}
 use native.Mathlib.Omega.{arith}
 use native.Mathlib.Decide.{ℕ_discrete}
-use lib.ListN.{length, get_or, set, take, drop, length-set, length-drop}
-use lib.Seq.{get_or-set_same, get_or-set_other, length-take-le, get_or-take, get_or-drop, ext_get_or}
-use Rattle.lists.specs.Tables.{tab, over}
-use Rattle.lists.proofs.Tables.{length-tab, tab-at, over-at, length_over}
+use lib.ListN.{length, get_or, set, length-set}
+use lib.Seq.{get_or-set_same, get_or-set_other}
+use Rattle.lists.specs.Tables.{over}
+use Rattle.lists.proofs.Tables.{over-at, length_over}
+use Rattle.word32.specs.Fields.{exit_of}
 use Rattle.answers.specs.declared.Counts.{Counts}
 use Rattle.layout.specs.Layout.{size}
 use Rattle.layout.specs.Shape.{Shape}
+use Rattle.layout.specs.Tables.{Decided, Walkable}
+use Rattle.value.specs.declared.Walked.{Walked}
 use Rattle.value.specs.Settings.{good}
 use Rattle.value.specs.Values.{walk, taken, graph, value}
 use Rattle.value.proofs.Settings.{good-keeps}
+use Rattle.value.proofs.Walk.{walk-walked}
+use Rattle.value.proofs.Walking.{walk_ends as walked_ends}
 use Rattle.value.proofs.Values.{graph-lower, value-input, value-bit}
 use Rattle.rules.specs.Rules.{flipped}
 use Rattle.rules.proofs.Changes.{flipped_below, flipped-here, flipped-gives, flipped-bit}
 use Rattle.sweep.specs.Swept.{Swept}
 use Rattle.value.specs.Buffers.{BitsBelow}
 use Rattle.change.specs.Flips.{Has, Between}
+
+-- one graph walked with the values of a buffer: local node k of graph h, whose first node the table gives as f, has decision d and takes exit e
+module _ {ws tables : List ℕ} {h k f : ℕ} (y : Walkable ws tables h) (l : k < size ws h) (p : f ≡ get_or tables h 0) (xs : List ℕ) {d e : ℕ}
+    (q : Decided ws (h + 1 + 2 * (f + k)) xs 0 d)
+    (z : e ≡ exit_of (get_or ws (h + 2 + 2 * (f + k)) 0) d) where
+  abbrev t : ℕ → ℕ
+  t = taken ws good (λ g. get_or xs g 0) h
+
+  pub walk_ends : e < 2 → BitsBelow h xs → e ≡ walk t (size ws h) k
+  walk_ends b bits = sym (walk-walked t (size ws h) k ∙ ap (λ (w : Walked). w.value) (walked_ends y l p xs q z b bits 0))
 
 -- the change walk of graph g
 module _ {ws : List ℕ} {c : Counts} (a : Shape ws c) (x : List ℕ) (g : ℕ) where
@@ -80,16 +95,6 @@ module _ {ws : List ℕ} {c : Counts} (a : Shape ws c) (x : List ℕ) (g : ℕ) 
 -- a walk that has come to the end
 pub flip-ends : {w v : ℕ → ℕ} {n h : ℕ} {xs : List ℕ} → Between w v n h xs → n ≤ h → Has w n xs
 flip-ends s l = record { long = s.long; word = λ i a. s.below i (omega arith) a }
-
--- n words of a list from m on, as a slice lends them
-pub words-from : (xs : List ℕ) (m n : ℕ) → m + n ≤ length xs → take (m + n - m) (drop m xs) ≡ tab (λ h. get_or xs (m + h) 0) n
-words-from xs m n l =
-    let k : m + n - m ≡ n = omega arith in
-    let long : length (take n (drop m xs)) ≡ n = length-take-le n (drop m xs) (omega (arith, length-drop m xs)) in
-    let f : ℕ → ℕ = λ h. get_or xs (m + h) 0 in
-    rw k (ext_get_or 0 (take n (drop m xs)) (tab f n) (long ∙ sym (length-tab f n)) (λ i h.
-    let b : i < n = rw long at h in
-    get_or-take n (drop m xs) i 0 b ∙ get_or-drop m xs i 0 ∙ sym (tab-at f n i b)))
 
 -- the good values from a sweep
 pub values-copied : {ws x values flips : List ℕ} {c : Counts} (ys : List ℕ) → Swept ws c x c.graphs values → c.graphs ≤ length ys

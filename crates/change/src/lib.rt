@@ -42,5 +42,9 @@ pub fn copy_values(c: Counts, values: &[u32], flips: &mut [u32])
     requires { (c.nodes + c.graphs ≤ length values.now) × (c.graphs ≤ length flips.old) }
     ensures { flips.new ≡ over c.graphs (λ h. get_or values.now (c.nodes + h) 0) flips.old }
 {
-    flips[..c.graphs].copy_from_slice(&values[c.nodes..c.nodes + c.graphs]);
+    // word by word: the library's copy would have an archive for C ask for `memmove`
+    for h in 0..c.graphs {
+        let own = lists::get(values, c.nodes + h);
+        lists::put(flips, h, own);
+    }
 }

@@ -10,7 +10,7 @@ ghost use Rattle.layout.specs.Shape.{Shape};
 ghost use Rattle.testvectors.specs.Vectors.{width};
 ghost use Rattle.detect.specs.Detects.{changes, critical_at};
 ghost use Rattle.answers.specs.Calls.{lends, whole, ByWords};
-ghost use Rattle.answers.specs.Ends.{EndsAs};
+ghost use Rattle.answers.specs.Ends.{ending, EndsAs};
 ghost use Rattle.changes.specs.Calls.{change_tests, change_outcome, critical_tests, critical_outcome};
 ghost use Rattle.changes.specs.Appended.{Appended};
 
@@ -90,7 +90,7 @@ pub fn change_list_with(
 ) -> Result<Done, Refusal>
     requires { min room max_graphs ≤ length list.old }
     ensures { EndsAs (change_outcome (lends card.entry) (lends vector.entry) graph room)
-        room result list.old list.new }
+        room (ending result) list.old list.new }
 {
     let c = opening::open_vector(card, vector)?;
     test_change(c, graph, room)?;
@@ -164,7 +164,7 @@ pub fn critical_nodes_with(
 ) -> Result<Done, Refusal>
     requires { min room max_nodes ≤ length nodes.old }
     ensures { EndsAs (critical_outcome (lends card.entry) (lends vector.entry) room)
-        room result nodes.old nodes.new }
+        room (ending result) nodes.old nodes.new }
 {
     let c = opening::open_vector(card, vector)?;
     test_critical(c, room)?;

@@ -4,7 +4,7 @@
 ghost use Rattle.std.specs.Prelude.{◌≤◌, min, length};
 ghost use Rattle.answers.specs.Limits.{max_words};
 ghost use Rattle.answers.specs.Calls.{lends, whole, ByWords};
-ghost use Rattle.answers.specs.Ends.{EndsAs};
+ghost use Rattle.answers.specs.Ends.{ending, EndsAs};
 ghost use Rattle.gates.specs.Calls.{to_card_outcome};
 
 use answers::{Done, Lent, Refusal};
@@ -12,7 +12,7 @@ use answers::{Done, Lent, Refusal};
 // The work of the call, for a gate list whose words so many bytes follow that make no word, and a buffer of `room` words.
 pub fn to_card_with(gates: Lent<'_>, room: usize, card: &mut [u32]) -> Result<Done, Refusal>
     requires { min room max_words ≤ length card.old }
-    ensures { EndsAs (to_card_outcome (lends gates.entry) room) room result card.old card.new }
+    ensures { EndsAs (to_card_outcome (lends gates.entry) room) room (ending result) card.old card.new }
 {
     let c = gatecheck::check_lent(gates)?;
     answers::test_room(c.graphs + 2 * c.nodes, room)?;

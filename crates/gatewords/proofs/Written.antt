@@ -18,7 +18,7 @@ use Rattle.gatelist.specs.AcceptsGates.{AcceptsGates}
 use Rattle.gatelist.proofs.Walk.{gate-right}
 use Rattle.gatelist.proofs.Lines.{lead-next, drawn-long, lead-few, card-long}
 
--- a store into a buffer d
+-- a store into a buffer d, and two that follow each other
 module _ (d : List ℕ) (n v : ℕ) where
   pub put_one : n < length d → set d n v ≡ front (take n d ++ (v ∷ [])) d
   put_one h =
@@ -28,6 +28,12 @@ module _ (d : List ℕ) (n v : ℕ) where
 
   long-one : n ≤ length d → length (take n d ++ (v ∷ [])) ≡ n + 1
   long-one h = length-append (take n d) (v ∷ []) ∙ rw (length-take-le n d h)
+
+  pub put_two : (u : ℕ) → n + 2 ≤ length d → set (set d n v) (n + 1) u ≡ front (take n d ++ (v ∷ u ∷ [])) d
+  put_two u h =
+      ap (λ (l : List ℕ). set l (n + 1) u) (put_one (omega arith))
+      ∙ front-more (take n d ++ (v ∷ [])) d (n + 1) u (long-one (omega arith)) (omega arith)
+      ∙ ap (λ (l : List ℕ). front l d) (append_assoc (take n d) (v ∷ []) (u ∷ []))
 
   -- words after one store
   pub put_then : (xs : List ℕ) {out : List ℕ} → n < length d → out ≡ front (take (n + 1) (set d n v) ++ xs) (set d n v) → out ≡ front (take n d ++ (v ∷ xs)) d

@@ -5,7 +5,7 @@ ghost use Rattle.std.specs.Prelude.{◌≡◌, ◌≤◌, min, length};
 ghost use Rattle.answers.specs.Limits.{max_faults};
 ghost use Rattle.answers.specs.Tests.{first_broken};
 ghost use Rattle.answers.specs.Calls.{lends, whole, ByWordsBoth};
-ghost use Rattle.answers.specs.Ends.{EndsBoth};
+ghost use Rattle.answers.specs.Ends.{ending, EndsBoth};
 ghost use Rattle.testvectors.specs.Lists.{list_words, lent_list};
 ghost use Rattle.cardtables.specs.Stems.{in_grade};
 ghost use Rattle.cardtables.specs.Tables.{Tabled};
@@ -89,7 +89,7 @@ pub fn grade_with(
     tallies: &mut [u32],
 ) -> Result<Done, Refusal>
     requires { (min room max_faults ≤ length marks.old) × (min more max_faults ≤ length tallies.old) }
-    ensures { EndsBoth (grade_outcome (lends card.entry) (lent_list list.entry) room more) room more result
+    ensures { EndsBoth (grade_outcome (lends card.entry) (lent_list list.entry) room more) room more (ending result)
         marks.old tallies.old marks.new tallies.new }
 {
     let c = opening::open_list(card, list)?;

@@ -1,5 +1,5 @@
 -- A list of faults in bytes: the loop over its later numbers, and what is read of it. Assumes nothing.
-use Prim.Native.Nat.{ℕ, suc, ◌+◌, ◌%◌, ◌<◌, ◌≤◌, max}
+use Prim.Native.Nat.{ℕ, suc, ◌+◌, ◌/◌, ◌%◌, ◌<◌, ◌≤◌, max}
 use mathlib.Core.Path.{◌≡◌, refl, sym, ap, ◌∙◌}
 use mathlib.Core.List.{List, [], ◌∷◌, ◌++◌}
 use mathlib.Core.Bool.{◌||◌, or-false, or_assoc}
@@ -11,7 +11,8 @@ use lib.Seq.{length-take-le, take_all, drop-cons, take-suc, take_at, take-suc-se
 use lib.Dec.{leb}
 use borrow.Author.Tests.{lt-ltb, ltb-false, le-leb, lt-leb}
 use Rattle.lists.specs.Counting.{some_of}
-use Rattle.word32.specs.Bytes.{words_of}
+use Rattle.lists.proofs.Tables.{length-tab}
+use Rattle.word32.specs.Bytes.{word_at, words_of}
 use Rattle.answers.specs.declared.Counts.{Counts}
 use Rattle.std.specs.Prelude.{Ok}
 use Rattle.answers.specs.Calls.{lent}
@@ -21,7 +22,7 @@ use borrow.Author.Rules.{rules}
 use Rattle.answers.proofs.Positions.{LowTests}
 use Rattle.faultlist.specs.Faults.{too_high, fault_tests}
 use Rattle.inbytes.specs.Read.{WordsRead}
-use Rattle.hostfaults.specs.Faults.{Highest, FaultsRead}
+use Rattle.hostfaults.specs.Faults.{Highest, FaultsRead, FaultsLent}
 
 -- the highest of two, and of a list in two parts
 max-high : (F a b : ℕ) → leb F (max a b) ≡ leb F a || leb F b
@@ -76,37 +77,34 @@ fault-low extra fs room c = search rules
 
 module _ (b : List ℕ) {out : List ℕ} {l n : ℕ} (nine : 9 ≡ l) (w : WordsRead b l n out) where
   -- a list of at most eight
-  pub few-read : (n ≡ 9 → ⊥) → FaultsRead b (lent (take n out) (length b % 4))
+  pub few-read : length b / 4 < 9 → FaultsRead b n out
   few-read h =
-      let ws : List ℕ = words_of b in
-      let front : take n out ≡ take 9 ws = rw (← nine) at w.front in
-      let short : length ws < 9 = elim (dec_le 9 (length ws)) [
-        | yes k ↦ absurd (h (sym (length-take-le n out w.fits) ∙ ap length front ∙ length-take-le 9 ws k))
-        | no k ↦ omega arith
-      ] in
-      let e : take n out ≡ ws = front ∙ take_all 9 ws (omega (arith, short)) in
-      record { fits = omega (arith, ap length e, short); left = refl; tested = λ extra room c. rw e; passed = λ extra room c s. e }
+      let e : take n out ≡ words_of b =
+      rw (← nine) at w.front ∙ take_all 9 (words_of b) (omega (arith, length-tab (word_at b) (length b / 4))) in
+      record { fits = w.fits; tested = λ extra room c. rw e; passed = λ extra room c s. e }
 
   -- a longer one
-  pub many_read : n ≡ 9 → {v : ℕ} → Highest b (get_or out 8 0) v → FaultsRead b (lent (take n (set out 8 v)) (length b % 4))
-  many_read z {v} high =
+  pub many_read : 9 ≤ length b / 4 → {v : ℕ} → Highest b (get_or out 8 0) v → FaultsRead b 9 (set out 8 v)
+  many_read h {v} high =
       let ws : List ℕ = words_of b in
+      let long : length ws ≡ length b / 4 = length-tab (word_at b) (length b / 4) in
       let e : take n out ≡ take 9 ws = rw (← nine) at w.front in
+      let z : n ≡ 9 = omega (arith, ap length e, length-take-le n out w.fits, length-take-le 9 ws (omega arith)) in
       let e9 : take 9 out ≡ take 9 ws = rw z at e in
       let nines : 9 ≤ length out = omega (arith, w.fits) in
-      let long : 9 ≤ length ws = elim (dec_le 9 (length ws)) [
-        | yes k ↦ k
-        | no k ↦ omega (arith, ap length e9, length-take-le 9 out nines, ap length (take_all 9 ws (omega arith)))
-      ] in
       let l9 : length (take 9 (set out 8 v)) ≡ 9 = length-take-le 9 (set out 8 v) (omega (arith, length-set out 8 v)) in
       let g : get_or out 8 0 ≡ get_or ws 8 0 = sym (get_or-take 9 out 8 0 (omega arith)) ∙ ap (λ (l : List ℕ). get_or l 8 0) e9 ∙ get_or-take 9 ws 8 0 (omega arith) in
       let t : take 8 out ≡ take 8 ws = sym (eight out nines) ∙ ap (take 8) e9 ∙ eight ws (omega arith) in
       let same : (F : ℕ) → too_high F (take 9 (set out 8 v)) ≡ too_high F ws = λ F.
       ap (too_high F) (take-suc-set out 8 v (omega arith)) ∙ high_parts F (take 8 out) (v ∷ [])
       ∙ rw (t, high_one F v, high.tells F, g) (sym (ap (too_high F) (sym (take-append-drop 8 ws)) ∙ high_parts F (take 8 ws) (drop 8 ws) ∙ rw (drop-cons ws 8 0 (omega arith), high-head F (get_or ws 8 0) (drop 9 ws)))) in
-      rw z (record {
-        fits = omega (arith, l9);
-        left = refl;
+      record {
+        fits = omega (arith, length-set out 8 v);
         tested = λ extra room c. many-tested extra (take 9 (set out 8 v)) ws room c (same c.faults) (omega arith) (omega arith);
         passed = λ extra room c s. absurd (omega (arith, few-passed extra ws room c s));
-      })
+      }
+
+-- the numbers that were read, as they are lent
+pub numbers-lent : (b out : List ℕ) (n : ℕ) → 9 ≡ length out → FaultsRead b n out → FaultsLent b (lent (take n out) (length b % 4))
+numbers-lent b out n nine f =
+    record { fits = omega (arith, length-take-le n out f.fits, f.fits); left = refl; tested = f.tested; passed = f.passed }

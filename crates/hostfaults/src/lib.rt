@@ -4,7 +4,7 @@
 
 ghost use Rattle.std.specs.Prelude.{◌≡◌, length};
 ghost use Rattle.answers.specs.Calls.{lends};
-ghost use Rattle.hostfaults.specs.Faults.{Highest, FaultsRead};
+ghost use Rattle.hostfaults.specs.Faults.{Highest, FaultsRead, FaultsLent};
 
 use answers::Lent;
 
@@ -22,16 +22,26 @@ fn highest(faults: &[u8], start: u32) -> u32
     high
 }
 
-// A list of faults in bytes goes to the front of a buffer, and is lent from there; of a list that is too long, nine numbers, of which the last is the highest
-// of the rest, so that it is refused for a number too high where the list is.
-pub fn read_faults<'a>(faults: &[u8], out: &'a mut [u32]) -> Lent<'a>
+// A list of faults in bytes goes to the front of a buffer; of a list that is too long, nine numbers, of which the last is the highest of the rest, so that
+// it is refused for a number too high where the list is.
+pub fn read_faults(faults: &[u8], out: &mut [u32]) -> usize
     requires { 9 ≡ length out.old }
-    ensures { FaultsRead faults.now (lends result) }
+    ensures { FaultsRead faults.now result out.new }
 {
     let n = inbytes::read_words(faults, out);
-    if n == 9 {
-        out[8] = highest(faults, out[8]);
+    if faults.len() / 4 < 9 {
+        return n;
     }
+    out[8] = highest(faults, out[8]);
+    9
+}
+
+// The numbers that are read, lent from there.
+pub fn lend_faults<'a>(faults: &[u8], out: &'a mut [u32]) -> Lent<'a>
+    requires { 9 ≡ length out.old }
+    ensures { FaultsLent faults.now (lends result) }
+{
+    let n = read_faults(faults, out);
     Lent {
         words: &out[..n],
         extra: faults.len() % 4,

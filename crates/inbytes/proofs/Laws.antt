@@ -14,7 +14,8 @@ use Rattle.answers.specs.declared.Counts.{Counts}
 use Rattle.std.specs.Prelude.{Ok, Err}
 use Rattle.answers.specs.Answers.{broken_rule, Reply}
 use Rattle.answers.specs.Calls.{Lent, Outcome, Work, outcome}
-use Rattle.answers.specs.Ends.{Ended, reply_of, written, written_more, Filled, EndsAs, EndsBoth, clip}
+use Rattle.answers.specs.declared.Ending.{Ending}
+use Rattle.answers.specs.Ends.{Filled, EndsAs, EndsBoth, clip}
 use Rattle.answers.proofs.Answers.{number-some}
 use Rattle.answers.proofs.Ends.{filled-front}
 use Rattle.form.specs.Check.{lent_check}
@@ -75,13 +76,13 @@ list_read b v e q F = rw (q, ← e) (list-call-clip (of_bytes b) (of_bytes v) (�
 left-bytes : {ws ws' before out left : List ℕ} {room n : ℕ} (b : List ℕ) → Filled ws room n before out → ws ≡ ws' → left ≡ as_bytes (take n out) b → left ≡ as_bytes ws' b
 left-bytes b w i q = q ∙ ap (λ (l : List ℕ). as_bytes l b) (filled-front w ∙ i)
 
-pub in_bytes : (call : ℕ → Outcome) {o : Outcome} {n : ℕ} {r : Ended} {before out left : List ℕ} (b : List ℕ) → EndsAs o (room b) r before out → o ≡ call (room b)
-    → (n ≡ host_answer (reply_of r)) × (left ≡ as_bytes (take (written r) out) b) → InBytes call n b left
+pub in_bytes : (call : ℕ → Outcome) {o : Outcome} {n : ℕ} {r : Ending} {before out left : List ℕ} (b : List ℕ) → EndsAs o (room b) r before out → o ≡ call (room b)
+    → (n ≡ host_answer r.reply) × (left ≡ as_bytes (take r.words out) b) → InBytes call n b left
 in_bytes call b e i (h, q) = (h ∙ ap host_answer (e.reply ∙ ap (λ (o : Outcome). o.reply) i), left-bytes b e.filled (ap (λ (o : Outcome). o.words) i) q)
 
-pub in-bytes-both : (call : ℕ → ℕ → Outcome) {o : Outcome} {n : ℕ} {r : Ended} {before out left before' out' left' : List ℕ} (b d : List ℕ)
+pub in-bytes-both : (call : ℕ → ℕ → Outcome) {o : Outcome} {n : ℕ} {r : Ending} {before out left before' out' left' : List ℕ} (b d : List ℕ)
     → EndsBoth o (room b) (room d) r before before' out out' → o ≡ call (room b) (room d)
-    → (n ≡ host_answer (reply_of r)) × (left ≡ as_bytes (take (written r) out) b) × (left' ≡ as_bytes (take (written_more r) out') d) → InBytesBoth call n b d left left'
+    → (n ≡ host_answer r.reply) × (left ≡ as_bytes (take r.words out) b) × (left' ≡ as_bytes (take r.more out') d) → InBytesBoth call n b d left left'
 in-bytes-both call b d e i (h, q, q') = (
   h ∙ ap host_answer (e.first.reply ∙ ap (λ (o : Outcome). o.reply) i),
   left-bytes b e.first.filled (ap (λ (o : Outcome). o.words) i) q,

@@ -10,7 +10,7 @@ ghost use Rattle.answers.specs.Calls.{lends};
 ghost use Rattle.inbytes.specs.Calls.{of_bytes, host_answer, as_bytes};
 ghost use Rattle.inbytes.specs.Read.{WordsRead};
 
-use answers::{Done, Lent, MAX_GRAPHS, MAX_WIDTH, MAX_WORDS, Refusal, Rule};
+use answers::{Done, Ending, Lent, MAX_GRAPHS, MAX_WIDTH, MAX_WORDS, Refusal, Rule};
 
 // The words of any card, of any vector and of any wires, and one word more, by which longer ones are refused.
 pub const CARD_ROOM: usize = MAX_WORDS + 1;
@@ -47,21 +47,44 @@ fn refusal(rule: Rule, position: usize) -> u64
 }
 
 // The answer of a call that has ended, and the words that it wrote as bytes in the lent buffer.
-pub fn answer(end: Result<Done, Refusal>, out: &[u32], buffer: &mut [u8]) -> u64
-    requires { Stands (reply_of end) × (written end ≤ length out.now) × (written end * 4 ≤ length buffer.old) }
-    ensures { (result ≡ host_answer (reply_of end)) × (buffer.new ≡ as_bytes (take (written end) out.now) buffer.old) }
+pub fn answer(end: Ending, out: &[u32], buffer: &mut [u8]) -> u64
+    requires { Stands end.reply × (end.words ≤ length out.now) × (end.words * 4 ≤ length buffer.old) }
+    ensures { (result ≡ host_answer end.reply) × (buffer.new ≡ as_bytes (take end.words out.now) buffer.old) }
 {
-    match end {
-        Ok(done) => {
-            word32::bytes_of(&out[..done.words], buffer);
-            done.number as u64
-        }
+    word32::bytes_of(&out[..end.words], buffer);
+    match end.reply {
+        Ok(number) => number as u64,
         Err(Refusal(rule, position)) => refusal(rule, position),
     }
 }
 
 // The same with two buffers.
 pub fn answer_both(
+    end: Ending,
+    out: &[u32],
+    more: &[u32],
+    buffer: &mut [u8],
+    second: &mut [u8],
+) -> u64
+    requires { Stands end.reply × (end.words ≤ length out.now) × (end.words * 4 ≤ length buffer.old)
+        × (end.more ≤ length more.now) × (end.more * 4 ≤ length second.old) }
+    ensures { (result ≡ host_answer end.reply) × (buffer.new ≡ as_bytes (take end.words out.now) buffer.old)
+        × (second.new ≡ as_bytes (take end.more more.now) second.old) }
+{
+    word32::bytes_of(&more[..end.more], second);
+    answer(end, out, buffer)
+}
+
+// The answer for what a worker ended with, which writes nothing where it is refused.
+pub fn answer_of(end: Result<Done, Refusal>, out: &[u32], buffer: &mut [u8]) -> u64
+    requires { Stands (reply_of end) × (written end ≤ length out.now) × (written end * 4 ≤ length buffer.old) }
+    ensures { (result ≡ host_answer (reply_of end)) × (buffer.new ≡ as_bytes (take (written end) out.now) buffer.old) }
+{
+    answer(Ending::from(end), out, buffer)
+}
+
+// The same with two buffers.
+pub fn answer_both_of(
     end: Result<Done, Refusal>,
     out: &[u32],
     more: &[u32],
@@ -73,8 +96,5 @@ pub fn answer_both(
     ensures { (result ≡ host_answer (reply_of end)) × (buffer.new ≡ as_bytes (take (written end) out.now) buffer.old)
         × (second.new ≡ as_bytes (take (written_more end) more.now) second.old) }
 {
-    if let Ok(done) = end {
-        word32::bytes_of(&more[..done.more], second);
-    }
-    answer(end, out, buffer)
+    answer_both(Ending::from(end), out, more, buffer, second)
 }

@@ -7,7 +7,7 @@ ghost use Rattle.wiring.specs.Calls.{counted_on};
 ghost use Rattle.form.specs.Check.{card_length, lent_check};
 ghost use Rattle.answers.specs.Tests.{first_broken};
 ghost use Rattle.answers.specs.Calls.{lends, whole, outcome, ByWords};
-ghost use Rattle.answers.specs.Ends.{EndsAs};
+ghost use Rattle.answers.specs.Ends.{ending, EndsAs};
 ghost use Rattle.layout.specs.Shape.{Accepts};
 ghost use Rattle.wiring.specs.Joined.{joined_counts};
 ghost use Rattle.joinwords.specs.Numbers.{WithinLimits};
@@ -37,7 +37,7 @@ fn join_accepted(
     card: &mut [u32],
 ) -> Result<Done, Refusal>
     requires { Accepts a.now ca × Accepts b.now cb × (min room max_words ≤ length card.old) }
-    ensures { EndsAs (outcome (Ok cb) (join_work (whole a.now) (whole b.now) (lends wires.entry) room ca)) room result
+    ensures { EndsAs (outcome (Ok cb) (join_work (whole a.now) (whole b.now) (lends wires.entry) room ca)) room (ending result)
         card.old card.new }
 {
     test_wires(ca, cb, wires, room)?;
@@ -69,7 +69,7 @@ pub fn join_with(
     card: &mut [u32],
 ) -> Result<Done, Refusal>
     requires { min room max_words ≤ length card.old }
-    ensures { EndsAs (join_outcome (lends a.entry) (lends b.entry) (lends wires.entry) room) room result
+    ensures { EndsAs (join_outcome (lends a.entry) (lends b.entry) (lends wires.entry) room) room (ending result)
         card.old card.new }
 {
     let ca = cardcheck::check_lent(a)?;

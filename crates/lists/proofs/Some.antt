@@ -1,8 +1,11 @@
--- Whether some number of a list passes: as the library's `any` finds it, and where none does. Assumes nothing.
-use Prim.Native.Nat.{ℕ}
+-- Whether some number of a list passes: as the library's `any` finds it, or a loop over the list, and where none does. Assumes nothing.
+use Prim.Native.Nat.{ℕ, ◌+◌, ◌<◌}
 use mathlib.Core.Path.{◌≡◌, refl, ap}
 use mathlib.Core.List.{List, [], ◌∷◌}
 use mathlib.Core.Bool.{Bool, false, ◌||◌}
+use native.Mathlib.Numerals.{add-one}
+use lib.ListN.{length, get_or, drop}
+use lib.Seq.{drop-cons}
 use Rattle.std.specs.List.{list_any}
 use Rattle.lists.specs.Counting.{some_of}
 use Rattle.lists.specs.Each.{Each}
@@ -13,6 +16,12 @@ pub some-any : (p : ℕ → Bool) (ns : List ℕ) → list_any p ns ≡ some_of 
 unfolding some_of
 some-any p [] = refl
 some-any p (n ∷ ns) = ap (p n ||◌) (some-any p ns)
+
+-- a loop over a list, where the number at hand fails: those after it
+module _ (p : ℕ → Bool) (ns : List ℕ) where
+  pub some_next : (i : ℕ) → i < length ns → p (get_or ns i 0) ≡ false → some_of p (drop i ns) ≡ some_of p (drop (i + 1) ns)
+  unfolding some_of
+  some_next i h e = rw (add-one, drop-cons ns i 0 h, e)
 
 -- where none passes, each fails
 pub none_of : (p : ℕ → Bool) (ns : List ℕ) → some_of p ns ≡ false → Each (λ n. p n ≡ false) ns

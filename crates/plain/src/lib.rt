@@ -4,7 +4,7 @@
 ghost use Rattle.std.specs.Prelude.{◌≤◌, min, length};
 ghost use Rattle.answers.specs.Limits.{max_graphs};
 ghost use Rattle.answers.specs.Calls.{lends, whole, ByWords};
-ghost use Rattle.answers.specs.Ends.{EndsAs};
+ghost use Rattle.answers.specs.Ends.{ending, EndsAs};
 ghost use Rattle.plain.specs.Calls.{good_outcome, fault_outcome};
 
 use answers::{Done, Lent, Refusal};
@@ -19,7 +19,7 @@ pub fn fault_values_with(
 ) -> Result<Done, Refusal>
     requires { min room max_graphs ≤ length values.old }
     ensures { EndsAs (fault_outcome (lends card.entry) (lends vector.entry) (lends faults.entry) room)
-        room result values.old values.new }
+        room (ending result) values.old values.new }
 {
     let c = opening::open_vector(card, vector)?;
     faultlist::test_faults(c, faults, room)?;

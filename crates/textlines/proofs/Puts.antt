@@ -1,10 +1,10 @@
 -- Bytes that are put one after the other. Assumes nothing.
-use Prim.Native.Nat.{ℕ, suc, ◌+◌, ◌≤◌}
+use Prim.Native.Nat.{ℕ, suc, ◌+◌, ◌<◌, ◌≤◌}
 use mathlib.Core.Path.{◌≡◌, refl, sym, ap, ◌∙◌}
 use mathlib.Core.List.{List, [], ◌∷◌, ◌++◌}
 use native.Mathlib.Omega.{arith}
 use native.Mathlib.Nat.{add-zero}
-use lib.ListN.{length, set, take, drop, length-append}
+use lib.ListN.{length, set, take, drop, length-append, length-set}
 use lib.Seq.{sets, sets-eq, length-sets, drop-drop}
 use Rattle.std.proofs.Common.{append_assoc}
 use borrow.Rule.Slice.PartMut.{put_mid}
@@ -22,6 +22,10 @@ placed-more at (x ∷ xs) ys d =
 pub puts_none : (d : List ℕ) (at : ℕ) → at ≤ length d → Puts d at [] at d
 unfolding placed
 puts_none d at h = record { ends = sym (add-zero at); inside = rw add-zero h; size = refl; bytes = refl }
+
+pub puts_one : (d : List ℕ) (at v : ℕ) → at < length d → Puts d at (v ∷ []) (at + 1) (set d at v)
+unfolding placed
+puts_one d at v h = record { ends = refl; inside = omega arith; size = length-set d at v; bytes = refl }
 
 -- one text after another
 pub puts_then : {d e f xs ys : List ℕ} {at m n : ℕ} → Puts d at xs m e → Puts e m ys n f → Puts d at (xs ++ ys) n f

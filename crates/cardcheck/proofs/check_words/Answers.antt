@@ -1,7 +1,7 @@
 use Rattle.std.proofs.Common.{arith, refl, rules, ap, ◌≡◌, ◌∙◌}
 use Rattle.std.specs.Prelude.{None, Ok, Err}
 use Rattle.form.specs.Check.{counts}
-use Rattle.cardcheck.proofs.Graphs.{begin, few, here, may-open, over-now, stops-now, few-nodes, next-at, stops-then, refused-then, onward, nearer}
+use Rattle.cardcheck.proofs.Graphs.{begin, few, here, may-open, ends-now, stops-now, few-nodes, next-at, stops-then, refused-then, onward, nearer}
 use Rattle.cardcheck.proofs.check_words.Goals as goal
 
 pub loop-h-init : goal.loop-h-init
@@ -74,4 +74,4 @@ returns c =
     let i = c.loop-h.invariant.1 in
     let due = rw c.loop-h.invariant.0 at c.next.ensures.0 in
     let none : c.in_ok-h.field-0 ≡ None = c.in_default.is in
-    over-now _ _ i _ due _ c.in_ok-h.ensures (ap Ok none)
+    ends-now _ _ i _ due _ c.in_ok-h.ensures (ap Ok none)

@@ -9,11 +9,11 @@ use Rattle.inbytes.proofs.Laws.{check-read, in_bytes}
 use Rattle.cardcounts.specs.Calls.{check_work, check_outcome}
 use Rattle.cardhost.proofs.card_check.Goals as goal
 
-pub answer-requires : goal.answer-requires
-answer-requires c =
+pub answer_of-requires : goal.answer_of-requires
+answer_of-requires c =
     let e = c.check_counts-end.ensures in
     (rw e.reply (outcome-stands _ (check_work (room c.args.numbers.now)) (check-low _ _) (λ c. search rules)), filled-held e.filled, omega (arith, filled-room e.filled))
 
 pub returns : goal.returns
 returns c =
-    in_bytes (check_outcome _) _ c.check_counts-end.ensures (check-read _ c.filled-ws.ensures.0 c.read-card.ensures (check_work (room c.args.numbers.now))) c.answer.ensures
+    in_bytes (check_outcome _) _ c.check_counts-end.ensures (check-read _ c.filled-ws.ensures.0 c.read-card.ensures (check_work (room c.args.numbers.now))) c.answer_of.ensures

@@ -11,14 +11,14 @@ use Rattle.plain.specs.Calls.{values_work, fault_outcome}
 use Rattle.plain.proofs.Lists.{one-call}
 use Rattle.cardhost.proofs.card_fault_values.Goals as goal
 
-pub answer-requires : goal.answer-requires
-answer-requires c =
+pub answer_of-requires : goal.answer_of-requires
+answer_of-requires c =
     let e = c.fault_values_with-end.ensures in
     (rw e.reply (vector-stands _ _ (values_work (fault_tests _ _ _) _ _ _) (fault-low _ _ _)), filled-held e.filled, omega (arith, filled-room e.filled))
 
 pub returns : goal.returns
 returns c =
-    let f = c.read_faults-list.ensures in
+    let f = c.lend_faults-list.ensures in
     let same = vector-read _ _ c.filled-ws.ensures.0 c.filled-x.ensures.0 c.read-card.ensures c.read-vector.ensures (values_work (fault_tests _ _ _) (faulty _))
     ∙ one-call _ _ (fault_tests _ _ _) (fault_tests _ _ _) _ _ (λ c. rw f.left (f.tested _ _ c)) (λ c s. ap faulty (f.passed _ _ c s)) in
-    in_bytes (fault_outcome _ _ _) _ c.fault_values_with-end.ensures same c.answer.ensures
+    in_bytes (fault_outcome _ _ _) _ c.fault_values_with-end.ensures same c.answer_of.ensures

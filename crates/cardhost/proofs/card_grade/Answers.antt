@@ -7,9 +7,9 @@ use Rattle.inbytes.proofs.Laws.{list_read, in-bytes-both}
 use Rattle.grade.specs.Calls.{grade_tests, grade_work, grade_outcome}
 use Rattle.cardhost.proofs.card_grade.Goals as goal
 
-pub answer_both-requires : goal.answer_both-requires
+pub answer_both_of-requires : goal.answer_both_of-requires
 unfolding grade_tests
-answer_both-requires c =
+answer_both_of-requires c =
     let e = c.grade_with-end.ensures in (
       rw e.first.reply (list-stands _ _ (grade_work _ _ _ _) (λ c. search rules)),
       filled-held e.first.filled,
@@ -21,4 +21,4 @@ answer_both-requires c =
 pub returns : goal.returns
 returns c =
     let same = list_read _ _ c.filled-ws.ensures.0 c.read-card.ensures (grade_work _ _) in
-    in-bytes-both (grade_outcome _ _) _ _ c.grade_with-end.ensures same c.answer_both.ensures
+    in-bytes-both (grade_outcome _ _) _ _ c.grade_with-end.ensures same c.answer_both_of.ensures

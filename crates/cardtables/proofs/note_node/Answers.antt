@@ -9,4 +9,4 @@ returns c =
     let q = c.graph_read-read.ensures in
     let w = c.sole_with.ensures in
     λ f k l e a d. node-noted _ k d c.requires.2 l e a (read_at _ _ k e q) (rw q c.requires.1) c.readers_of.ensures c.put.ensures.0 c.put.ensures.1
-    (search rules) c.get-had.ensures w.0 w.1 c.put-2.ensures
+    (search rules) c.sole_reader-had.ensures w.0 w.1 c.put-2.ensures

@@ -1,11 +1,12 @@
--- `change::copy_values` meets its contract. Assumes nothing.
-use mathlib.Core.Path.{ap, ◌∙◌}
-use mathlib.Core.List.{◌++◌}
-use lib.ListN.{drop}
-use Rattle.change.proofs.Laws.{words-from}
+use mathlib.Core.Path.{refl, sym, ◌∙◌}
+use native.Mathlib.Omega.{arith}
+use Rattle.lists.proofs.Tables.{over_none, over-store}
+use borrow.Author.Rules.{rules}
 use Rattle.change.proofs.copy_values.Goals as goal
 
-pub returns : goal.returns
-returns c =
-    let n = c.args.c.graphs in
-    ap (◌++ drop n c.args.flips.now) (c.copy_from_slice.ensures.after ∙ words-from c.args.values.now c.args.c.nodes n c.requires.0)
+pub loop-h-init : goal.loop-h-init
+loop-h-init c = (refl, sym (over_none _ _))
+
+pub loop-h-preserved : goal.loop-h-preserved
+loop-h-preserved c =
+    (search rules, c.put.ensures ∙ rw c.loop-h.invariant.1 (over-store _ _ c.loop-h.h _ (omega (arith, c.requires.1)) c.get-own.ensures))
