@@ -18,7 +18,7 @@ use Rattle.layout.specs.Shape.{Shape}
 use Rattle.nodecheck.specs.Table.{Blank, NodesTold}
 use Rattle.cardcheck.specs.Graph.{Few, DueAfter, Opened, answer_from, OpeningTold, NodesRead, GraphTold}
 use Rattle.cardcheck.specs.declared.Header.{Header}
-use Rattle.cardcheck.proofs.Turns.{nodes-stops, rest-go, rest-stop}
+use Rattle.cardcheck.proofs.Turns.{IsOver, nodes-stops, rest-go, rest-stop}
 
 -- the answer from the start
 abbrev pub all : List ℕ → ℕ → Answer
@@ -30,12 +30,6 @@ pub record Going (ws : List ℕ) (extra : ℕ) (c : Counts) (p : ℕ) (tb : List
   pub shape : Shape ws c
   pub blanks : Blank tb
   pub same : answer_from ws extra c ≡ all ws extra
-
--- what a part told ends the check with the answer a: no graph is due, and those that c counts are accepted; or the card is refused
-abbrev pub IsOver : Counts → Result (Option Header) Refusal → Answer → Type 0
-IsOver c (Ok None) a = a ≡ Ok c
-IsOver c (Ok (Some h)) a = ⊥
-IsOver c (Err r) a = a ≡ Err r
 
 module _ (ws : List ℕ) (extra : ℕ) where
   pub begin : (t : List ℕ) → Blank t → Going ws extra (counts 0 0 0 0) 0 t

@@ -8,7 +8,7 @@ use lib.ListN.{length}
 use borrow.Author.Tests.{le-leb, lt-leb, lt-ltb, le-ltb}
 use Rattle.word32.specs.Fields.{node_count}
 use Rattle.answers.specs.declared.Counts.{Counts}
-use Rattle.std.specs.Prelude.{Option, Result, Ok, Err}
+use Rattle.std.specs.Prelude.{Option, None, Some, Result, Ok, Err}
 use Rattle.answers.specs.Answers.{Verdict, Answer, refused}
 use Rattle.answers.specs.declared.Refusal.{Refusal}
 use Rattle.answers.specs.declared.Rule.TheVariants.{CardTooLong, NodeNotNamed}
@@ -43,9 +43,17 @@ module _ {ws : List ℕ} {c : Counts} {h : Header} {v : Verdict} {t : List ℕ} 
     unfolding graph_verdict
     graph-sound u = rw (nr.opened.sound, ← has, ← nr.verdict, e, u)
 
--- what a part hands back: two refusals that are handed back as one are one
-pub same_over : (a b : Refusal) → ◌≡◌ {A = Result (Option Header) Refusal} (Err a) (Err b) → a ≡ b
-same_over a b e = cc
+-- what a part told ends the check with the answer a: no graph is due, and those that c counts are accepted; or the card is refused
+abbrev pub IsOver : Counts → Result (Option Header) Refusal → Answer → Type 0
+IsOver c (Ok None) a = a ≡ Ok c
+IsOver c (Ok (Some h)) a = ⊥
+IsOver c (Err r) a = a ≡ Err r
+
+-- what a part hands back
+pub same_over : (c : Counts) (r : Result (Option Header) Refusal) (a b : Answer) → IsOver c r a → IsOver c r b → a ≡ b
+same_over c (Ok None) a b e q = e ∙ sym q
+same_over c (Ok (Some h)) a b e q = absurd e
+same_over c (Err r) a b e q = e ∙ sym q
 
 pub same_end : (a b : Refusal) → ◌≡◌ {A = Answer} (Err a) (Err b) → a ≡ b
 same_end a b e = cc
