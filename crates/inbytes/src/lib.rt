@@ -3,7 +3,6 @@
 #![tactic(auto)]
 
 ghost use Rattle.std.specs.Prelude.{◌≡◌, ◌+◌, ◌*◌, ◌≤◌, ◌<◌, min, length, take, Err};
-ghost use Rattle.answers.specs.Limits.{max_graphs, max_words, max_width};
 ghost use Rattle.answers.specs.Answers.{refused};
 ghost use Rattle.answers.specs.Ends.{reply_of, written, written_more, clip, Stands};
 ghost use Rattle.answers.specs.Calls.{lends};
