@@ -75,21 +75,43 @@ pub fault-low : (extra : ℕ) (fs : List ℕ) (room : ℕ) (c : Counts) → LowT
 unfolding fault_tests
 fault-low extra fs room c = search rules
 
+-- the numbers that were read, nine at most, as they are lent
+nine-lent : (b out : List ℕ) (n : ℕ) → n ≤ 9 → FaultsRead b n out → FaultsLent b (lent (take n out) (length b % 4))
+nine-lent b out n few f = record { fits = omega (arith, length-take-le n out f.fits, few); left = refl; tested = f.tested; passed = f.passed }
+
+pub numbers-lent : (b out : List ℕ) (n : ℕ) → 9 ≡ length out → FaultsRead b n out → FaultsLent b (lent (take n out) (length b % 4))
+numbers-lent b out n nine f = nine-lent b out n (omega (arith, nine, f.fits)) f
+
 module _ (b : List ℕ) {out : List ℕ} {l n : ℕ} (nine : 9 ≡ l) (w : WordsRead b l n out) where
-  -- a list of at most eight
+  -- as many were read as there are, nine at most
+  read-least : n ≡ min 9 (length b / 4)
+  read-least =
+      let ws : List ℕ = words_of b in
+      let long : length ws ≡ length b / 4 = length-tab (word_at b) (length b / 4) in
+      let e : take n out ≡ take 9 ws = rw (← nine) at w.front in
+      let r : length (take n out) ≡ n = length-take-le n out w.fits in
+      elim (dec_le 9 (length ws)) [
+        | yes h ↦ omega (arith, ap length e, r, length-take-le 9 ws h, long)
+        | no h ↦ omega (arith, ap length e, r, ap length (take_all 9 ws (omega arith)), long)
+      ]
+
+  -- a list of at most eight, as it is read, and as it is lent from a buffer of any length
   pub few-read : length b / 4 < 9 → FaultsRead b n out
   few-read h =
       let e : take n out ≡ words_of b =
       rw (← nine) at w.front ∙ take_all 9 (words_of b) (omega (arith, length-tab (word_at b) (length b / 4))) in
       record { fits = w.fits; tested = λ extra room c. rw e; passed = λ extra room c s. e }
 
-  -- a longer one
+  pub few-lent : (n ≡ 9 → ⊥) → FaultsLent b (lent (take n out) (length b % 4))
+  few-lent h = nine-lent b out n (omega (arith, read-least)) (few-read (omega (arith, h, read-least)))
+
+  -- a longer one, so too
   pub many_read : 9 ≤ length b / 4 → {v : ℕ} → Highest b (get_or out 8 0) v → FaultsRead b 9 (set out 8 v)
   many_read h {v} high =
       let ws : List ℕ = words_of b in
       let long : length ws ≡ length b / 4 = length-tab (word_at b) (length b / 4) in
       let e : take n out ≡ take 9 ws = rw (← nine) at w.front in
-      let z : n ≡ 9 = omega (arith, ap length e, length-take-le n out w.fits, length-take-le 9 ws (omega arith)) in
+      let z : n ≡ 9 = omega (arith, read-least) in
       let e9 : take 9 out ≡ take 9 ws = rw z at e in
       let nines : 9 ≤ length out = omega (arith, w.fits) in
       let l9 : length (take 9 (set out 8 v)) ≡ 9 = length-take-le 9 (set out 8 v) (omega (arith, length-set out 8 v)) in
@@ -104,31 +126,5 @@ module _ (b : List ℕ) {out : List ℕ} {l n : ℕ} (nine : 9 ≡ l) (w : Words
         passed = λ extra room c s. absurd (omega (arith, few-passed extra ws room c s));
       }
 
--- the numbers that were read, nine at most, as they are lent
-nine-lent : (b out : List ℕ) (n : ℕ) → n ≤ 9 → FaultsRead b n out → FaultsLent b (lent (take n out) (length b % 4))
-nine-lent b out n few f = record { fits = omega (arith, length-take-le n out f.fits, few); left = refl; tested = f.tested; passed = f.passed }
-
-pub numbers-lent : (b out : List ℕ) (n : ℕ) → 9 ≡ length out → FaultsRead b n out → FaultsLent b (lent (take n out) (length b % 4))
-numbers-lent b out n nine f = nine-lent b out n (omega (arith, nine, f.fits)) f
-
--- what is lent of them from a buffer of any length
-module _ (b : List ℕ) {out : List ℕ} {l n : ℕ} (nine : 9 ≡ l) (w : WordsRead b l n out) where
-  -- as many were read as there are, nine at most
-  read-least : n ≡ min 9 (length b / 4)
-  read-least =
-      let ws : List ℕ = words_of b in
-      let long : length ws ≡ length b / 4 = length-tab (word_at b) (length b / 4) in
-      let e : take n out ≡ take 9 ws = rw (← nine) at w.front in
-      let r : length (take n out) ≡ n = length-take-le n out w.fits in
-      elim (dec_le 9 (length ws)) [
-        | yes h ↦ omega (arith, ap length e, r, length-take-le 9 ws h, long)
-        | no h ↦ omega (arith, ap length e, r, ap length (take_all 9 ws (omega arith)), long)
-      ]
-
-  -- a list of at most eight
-  pub few-lent : (n ≡ 9 → ⊥) → FaultsLent b (lent (take n out) (length b % 4))
-  few-lent h = nine-lent b out n (omega (arith, read-least)) (few-read b nine w (omega (arith, h, read-least)))
-
-  -- a longer one
   pub many-lent : n ≡ 9 → {v : ℕ} → Highest b (get_or out 8 0) v → FaultsLent b (lent (take n (set out 8 v)) (length b % 4))
-  many-lent z {v} high = rw z (nine-lent b (set out 8 v) 9 (omega arith) (many_read b nine w (omega (arith, read-least)) high))
+  many-lent z {v} high = rw z (nine-lent b (set out 8 v) 9 (omega arith) (many_read (omega (arith, read-least)) high))
